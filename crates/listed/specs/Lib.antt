@@ -1,0 +1,3 @@
+pub mod Entries
+pub mod Merging
+pub mod Listing

@@ -1,0 +1,6 @@
+pub mod Order
+pub mod Bounds
+pub mod Misfits
+pub mod Building
+pub mod Listing
+pub mod Splitting
