@@ -11,13 +11,8 @@ use Rattle.tally.specs.Pairs.{inside, pairs}
 use Rattle.tally.specs.Counts.{Counts, none, counted-pairs, count-of, none-above}
 use Rattle.tally.proofs.Bounds.{bounded-from}
 use Rattle.tally.proofs.Building.{Ranged}
-use Rattle.tally.proofs.Listing.{all-rest, rest-skip, rest-past}
 use Rattle.tally.proofs.Splitting.{count-of-counted, counted-ranged}
 use Rattle.listed.specs.Entries.{In-order, listed-fits}
-
--- nothing is listed of a blank table
-pub none-listed : counted-pairs none ≡ []
-none-listed = all-rest none ∙ rest-skip none 0 pairs (omega arith) (omega arith) (λ i a b. refl) ∙ rest-past none pairs (omega arith)
 
 pub none-low : none-above 8191 none ≡ true
 none-low = bounded-from 8191 none (λ p i. omega arith)

@@ -20,12 +20,11 @@ use Rattle.tally.specs.Answers.{refuses, verdict}
 use Rattle.tally.proofs.Order.{at-rank, rank-at, rank-below, inside-at, same-rank}
 use Rattle.tally.proofs.Bounds.{bounded-lowered, bounded-larger}
 use Rattle.tally.proofs.Building.{below, below-le, below-more, below-none, below-skip, below-whole, Ranged, Lowers, stopped}
-use Rattle.tally.proofs.Listing.{all-rest, rest, first, Comes, rest-here, rest-zero, rest-past, rest-skip, first-none, comes-from, zeros-from, counted-lowered}
+use Rattle.tally.proofs.Listing.{none-counted, all-rest, rest, first, Comes, rest-here, rest-zero, rest-past, rest-skip, first-none, comes-from, zeros-from, counted-lowered}
 use Rattle.tally.proofs.Splitting.{from-same, raised-last}
 use Rattle.listed.specs.Entries.{listed-fits}
 use Rattle.listed.specs.Merging.{front-of, merged-front, heads}
 use Rattle.listed.proofs.Seeking.{heads-rest}
-use Rattle.listed.proofs.Keeping.{none-listed}
 
 pub fits-lowered : Lowers listed-fits
 fits-lowered c d less h =
@@ -108,7 +107,7 @@ pub record Merging (c d : Counts) (a b merged : List (Pair × ℕ)) (m : ℕ) : 
 module _ (c d : Counts) (ranged-c : Ranged c) (ranged-d : Ranged d) where
   pub merging-none : (a b : List (Pair × ℕ)) → a ≡ counted-pairs c → b ≡ counted-pairs d → Merging c d a b [] 0
   merging-none a b e f =
-      record { left = e ∙ all-rest c; right = f ∙ all-rest d; done = sym (ap counted-pairs (sym (below-none (w c d))) ∙ none-listed) }
+      record { left = e ∙ all-rest c; right = f ∙ all-rest d; done = sym (ap counted-pairs (sym (below-none (w c d))) ∙ none-counted) }
 
   ranged : Ranged (w c d)
   ranged p o = omega (arith, ranged-c p o, ranged-d p o)

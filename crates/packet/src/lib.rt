@@ -24,7 +24,11 @@ impl Head {
     pub fn is_in_range(self) -> bool
         ensures { λ r. ⌜ r ≡ in-range self ⌝ }
     {
-        self.station < 8 && self.sender < 32 && self.addressee < 32 && self.sender != self.addressee && self.name < 4096
+        self.station < 8
+            && self.sender < 32
+            && self.addressee < 32
+            && self.sender != self.addressee
+            && self.name < 4096
     }
 }
 
@@ -36,7 +40,11 @@ impl<T, B> Message<T, B> {
         B: Drop,
         ensures { λ r. ⌜ mapped parts r ≡ cond (in-range head) (Some (head, tag, body)) None ⌝ }
     {
-        if head.is_in_range() { Some(Message { head, tag, body }) } else { None }
+        if head.is_in_range() {
+            Some(Message { head, tag, body })
+        } else {
+            None
+        }
     }
 
     pub fn head(&self) -> Head

@@ -12,8 +12,8 @@ use Rattle.tally.specs.Counts.{Counts, none}
 use Rattle.questions.specs.Asking.{first-no}
 use Rattle.questions.proofs.Asked.{passed, stopped}
 use Rattle.packet.specs.Faults.{Told}
-use Rattle.packet_read.specs.Layout.{pair-from, pair-place, counts-in}
-use Rattle.packet_read.specs.Reading.{with-pair, pair-questions, least, pairs-questions}
+use Rattle.packet.specs.Layout.{pair-from, pair-place, counts-in}
+use Rattle.packet.specs.Reading.{with-pair, pair-questions, least, pairs-questions}
 
 -- i of n pairs are read: the reader is at a place, the next pair's place in the order is to be at least l, and the pairs read count c
 pub record Going (fits : Counts → Bool) (bs : List ℕ) (n i place l : ℕ) (c : Counts) : Type 0 where
@@ -48,7 +48,8 @@ module _ (fits : Counts → Bool) (bs : List ℕ) (n : ℕ) where
           here = omega (arith, at-place, so-far .here);
           lowest = lowest-next ∙ ap (least bs) one;
           counts = counts-next ∙ ap (counts-in bs) one;
-          left = left-next ∙ ap (λ k. first-no (pairs-questions fits bs k (n - k))) one }
+          left = left-next ∙ ap (λ k. first-no (pairs-questions fits bs k (n - k))) one;
+        }
 
     pub going-stops : i < n → (t : Told) → first-no (pair-questions fits bs place l c) ≡ Some t → first-no (pairs-questions fits bs 0 n) ≡ Some t
     going-stops h t e = next h ∙ stopped (pair-questions fits bs place l c) (pairs-questions fits bs (suc i) (n - suc i)) t e

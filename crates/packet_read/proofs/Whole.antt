@@ -16,8 +16,8 @@ use Rattle.packet.specs.declared.message.Message.{Message}
 use Rattle.packet.specs.Heads.{in-range}
 use Rattle.packet.specs.Messages.{meaning, parts}
 use Rattle.packet.specs.Faults.{Told}
-use Rattle.packet_read.specs.Layout.{byte-at, pairs-told, counts-in, head-in, body-in}
-use Rattle.packet_read.specs.Reading.{opening-questions, head-questions, pairs-questions, body-questions, refusal, content}
+use Rattle.packet.specs.Layout.{byte-at, pairs-told, counts-in, head-in, body-in}
+use Rattle.packet.specs.Reading.{opening-questions, head-questions, pairs-questions, body-questions, refusal, content}
 
 module _ (kind : ℕ) (lawful : List ℕ → Bool) (fits : Counts → Bool) (bs : List ℕ) where
   abbrev pairs : List (Question Told)
@@ -64,7 +64,8 @@ headed kind bs e =
     record {
       long = leb-true _ _ long-yes;
       kind-is = eqb-true _ _ kind-yes;
-      ranged = and-from _ _ station (and-from _ _ sender (and-from _ _ (addressee .0) (and-from _ _ (addressee .1) name))) }
+      ranged = and-from _ _ station (and-from _ _ sender (and-from _ _ (addressee .0) (and-from _ _ (addressee .1) name)));
+    }
 
 some-parts : {X : Type 0} (x y : X) → _≡_ {A = Option X} (Some x) (Some y) → x ≡ y
 some-parts x y e = cc

@@ -15,8 +15,10 @@ ghost use Rattle.tally.specs.Answers.{raising};
 ghost use Rattle.station.specs.Faults.{carried};
 ghost use Rattle.questions.specs.Asking.{first-no};
 ghost use Rattle.packet.specs.declared.fault.Fault.the-variants.{Counts as FaultCounts};
-ghost use Rattle.packet_read.specs.Layout.{pair-from, pair-place, counts-in, pairs-told, body-place, body-in, head-in};
-ghost use Rattle.packet_read.specs.Reading.{opening-questions, head-questions, with-pair, pair-questions, pairs-questions, body-questions, reading};
+ghost use Rattle.packet.specs.Layout.{pair-from, pair-place, counts-in, pairs-told, body-place, body-in, head-in};
+ghost use Rattle.packet.specs.Messages.{meaning};
+ghost use Rattle.packet.specs.Packing.{packet-bytes};
+ghost use Rattle.packet.specs.Reading.{opening-questions, head-questions, with-pair, pair-questions, pairs-questions, body-questions, reading};
 ghost use Rattle.packet_read.specs.Fields.{packet, asked, placed, outcome};
 use body::Body;
 use packet::Fault;
@@ -77,7 +79,15 @@ fn head<B: Body>(reader: &mut Reader) -> Result<(Head, u16), Fault>
     let addressee = reader.addressee(sender)?;
     let name = reader.name()?;
     let pairs = reader.word()?;
-    Ok((Head { station, sender, addressee, name }, pairs))
+    Ok((
+        Head {
+            station,
+            sender,
+            addressee,
+            name,
+        },
+        pairs,
+    ))
 }
 
 // A station's fault, at the byte place of a pair.
@@ -159,9 +169,11 @@ fn body<B: Body>(reader: &mut Reader) -> Result<B, Fault>
     Ok(body)
 }
 
-// The message that a packet carries with a body of the kind B, its tag in a tally of the kind T.
+// The message that a packet carries, its tag in a tally of the kind T and its body of the kind B; or why it is refused.
+// An accepted packet packs to the same bytes.
 pub fn read<T: Tally, B: Body>(packet: &[u8]) -> Result<Message<T, B>, Fault>
-    ensures { λ r. ⌜ outcome (T·Tally .counts) (B·Body .bytes) r ≡ reading (B·Body .kind) (B·Body .lawful) (T·Tally .fits) (now (packet .entry)) ⌝ }
+    ensures answers { λ r. ⌜ outcome (T·Tally .counts) (B·Body .bytes) r ≡ reading (B·Body .kind) (B·Body .lawful) (T·Tally .fits) (now (packet .entry)) ⌝ }
+    ensures packs { λ r. ⌜ made r (λ m. packet-bytes (B·Body .kind) (meaning (T·Tally .counts) (B·Body .bytes) m) ≡ now (packet .entry)) ⌝ }
 {
     let place = opening(packet)?;
     let mut reader = Reader { packet, place };

@@ -44,3 +44,7 @@ all-yes (q ∷ qs) e = let y = both (q .1) (q .0) (first-no qs) e in (y .0, all-
 pub no-no : {R : Type 0} (qs : List (Question R)) → All-yes qs → first-no qs ≡ None
 no-no [] y = refl
 no-no (q ∷ qs) y = cond-true (q .1) (first-no qs) (Some (q .0)) (y .0) ∙ no-no qs (y .1)
+
+pub yes-parts : {R : Type 0} (qs rs : List (Question R)) → All-yes (qs ++ rs) → All-yes qs × All-yes rs
+yes-parts [] rs y = (tt, y)
+yes-parts (q ∷ qs) rs y = let parts = yes-parts qs rs (y .1) in ((y .0, parts .0), parts .1)

@@ -14,7 +14,7 @@ use Rattle.std.specs.declared.option.Option.the-variants.{Some, None}
 use Rattle.std.proofs.shelf.Tests.{cond-true, cond-false, cond-both, cases-bool, cases-lt, eqb-true, eqb-false, eq-eqb, ne-eqb, le-leb, lt-leb}
 use Rattle.tally.specs.declared.pair.Pair.{Pair}
 use Rattle.tally.specs.Pairs.{inside, pairs, rank, pair-at, start}
-use Rattle.tally.specs.Counts.{Counts, counted-from, counted-pairs, counted}
+use Rattle.tally.specs.Counts.{Counts, none, counted-from, counted-pairs, counted}
 use Rattle.tally.specs.Answers.{first-from, next-counted}
 use Rattle.tally.proofs.Order.{inside-at, rank-at, from-start}
 
@@ -91,6 +91,10 @@ module _ (c : Counts) where
 
     pub next-is : next-counted c p ≡ first (rest c (start p))
     next-is = ap (first-from p) all-rest ∙ from-earlier (start p) 0 (omega arith) (omega arith)
+
+-- nothing is counted in a blank table
+pub none-counted : counted-pairs none ≡ []
+none-counted = all-rest none ∙ rest-skip none 0 pairs (omega arith) (omega arith) (λ i a b. refl) ∙ rest-past none pairs (omega arith)
 
 -- what a walk from place k on comes to: the next counted pair q with its count n, nothing counted between, and what is left after it
 pub record Comes (c : Counts) (k : ℕ) (q : Pair) (n : ℕ) : Type 0 where

@@ -26,9 +26,9 @@ use Rattle.tally.specs.Pairs.{inside, rank}
 use Rattle.tally.specs.Counts.{Counts, raised}
 use Rattle.tally.specs.Answers.{first-misfit}
 use Rattle.questions.specs.Asking.{Question, first-no, answered}
 use Rattle.packet.specs.Messages.{Content}
 use Rattle.packet.specs.Faults.{Told, refused}
-use Rattle.packet_read.specs.Layout.{byte-at, word-at, pair-from, count-from, pair-place, counts-in, pairs-told, body-place, body-in, packet-end, head-in}
+use Rattle.packet.specs.Layout.{byte-at, word-at, pair-from, count-from, pair-place, counts-in, pairs-told, body-place, body-in, packet-end, head-in}
 
 abbrev pub enough : ℕ → List ℕ → Question Told
 enough n bs = (refused 31 (length bs), leb n (length bs))
