@@ -21,7 +21,7 @@ use Rattle.tally.proofs.Order.{at-rank, rank-at, rank-below, inside-at, same-ra
 use Rattle.tally.proofs.Bounds.{bounded-lowered, bounded-larger}
 use Rattle.tally.proofs.Building.{below, below-le, below-more, below-none, below-skip, below-whole, Ranged, Lowers, stopped}
 use Rattle.tally.proofs.Listing.{none-counted, all-rest, rest, first, Comes, rest-here, rest-zero, rest-past, rest-skip, first-none, comes-from, zeros-from, counted-lowered}
-use Rattle.tally.proofs.Splitting.{from-same, raised-last}
+use Rattle.tally.proofs.Splitting.{rest-same, raised-last}
 use Rattle.listed.specs.Entries.{listed-fits}
 use Rattle.listed.specs.Merging.{front-of, merged-front, heads}
 use Rattle.listed.proofs.Seeking.{heads-rest}
@@ -58,10 +58,10 @@ module _ (c d : Counts) where
 
   -- where one list has ended, the other one is left
   left-only : (m : ℕ) → rest d m ≡ [] → rest w m ≡ rest c m
-  left-only m e = from-same w c m (pairs - m) (λ i a b. omega (arith, zeros-from d m e i a (omega arith)))
+  left-only m e = rest-same w c m (λ i a b. omega (arith, zeros-from d m e i a b))
 
   right-only : (m : ℕ) → rest c m ≡ [] → rest w m ≡ rest d m
-  right-only m e = from-same w d m (pairs - m) (λ i a b. omega (arith, zeros-from c m e i a (omega arith)))
+  right-only m e = rest-same w d m (λ i a b. omega (arith, zeros-from c m e i a b))
 
   -- two lists merged begin with the first pair that either counts
   front-is : (m : ℕ) (xs ys : List (Pair × ℕ)) → rest c m ≡ xs → rest d m ≡ ys → merged-front xs ys ≡ first (rest w m)

@@ -54,6 +54,7 @@ module _ (c : Counts) (k : ℕ) where
 
   -- a place in range parts the list
   pub sought : k ≤ pairs → (take (seek k (counted-pairs c)) (counted-pairs c) ≡ before c k) × (drop (seek k (counted-pairs c)) (counted-pairs c) ≡ rest c k)
+  unfolding rest
   sought h = sought-at k h (omega arith) refl (seek-after (pairs - k) k (omega arith) (omega arith))
 
   -- what stands from any place on

@@ -48,3 +48,7 @@ no-no (q ∷ qs) y = cond-true (q .1) (first-no qs) (Some (q .0)) (y .0) ∙ no-
 pub yes-parts : {R : Type 0} (qs rs : List (Question R)) → All-yes (qs ++ rs) → All-yes qs × All-yes rs
 yes-parts [] rs y = (tt, y)
 yes-parts (q ∷ qs) rs y = let parts = yes-parts qs rs (y .1) in ((y .0, parts .0), parts .1)
+
+pub yes-both : {R : Type 0} (qs rs : List (Question R)) → All-yes qs → All-yes rs → All-yes (qs ++ rs)
+yes-both [] rs y z = z
+yes-both (q ∷ qs) rs y z = (y .0, yes-both qs rs (y .1) z)

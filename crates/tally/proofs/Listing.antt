@@ -19,7 +19,7 @@ use Rattle.tally.specs.Answers.{first-from, next-counted}
 use Rattle.tally.proofs.Order.{inside-at, rank-at, from-start}
 
 -- the counted pairs from place k on
-abbrev pub rest : Counts → ℕ → List (Pair × ℕ)
+unfoldable pub rest : Counts → ℕ → List (Pair × ℕ)
 rest c k = counted-from c k (pairs - k)
 
 -- the first of some pairs
@@ -29,14 +29,16 @@ first (x ∷ xs) = Some x
 
 module _ (c : Counts) where
   pub all-rest : counted-pairs c ≡ rest c 0
-  unfolding counted-pairs
+  unfolding counted-pairs rest
   all-rest = refl
 
   pub rest-past : (k : ℕ) → pairs ≤ k → rest c k ≡ []
+  unfolding rest
   rest-past k h = let e : pairs - k ≡ 0 = omega arith in ap (counted-from c k) e
 
   -- one place on
   rest-step : (k : ℕ) → k < pairs → rest c k ≡ cond (eqb (c (pair-at k)) 0) (rest c (k + 1)) ((pair-at k, c (pair-at k)) ∷ rest c (k + 1))
+  unfolding rest
   rest-step k h =
       let e : pairs - k ≡ suc (pairs - suc k) = omega arith in
       ap (counted-from c k) e

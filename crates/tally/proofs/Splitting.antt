@@ -14,14 +14,14 @@ use Rattle.tally.specs.Pairs.{inside, pairs, same, rank, pair-at}
 use Rattle.tally.specs.Counts.{Counts, raised, counted-from, counted-pairs, count-of}
 use Rattle.tally.proofs.Order.{inside-at, rank-at, at-rank, rank-below, not-same, same-is, same-self, false-since}
 use Rattle.tally.proofs.Building.{Ranged}
-use Rattle.tally.proofs.Listing.{rest, all-rest, rest-here, rest-past, rest-skip}
+use Rattle.tally.proofs.Listing.{rest, rest-here, rest-past, rest-skip}
 
 -- the counted pairs before place k
 abbrev pub before : Counts → ℕ → List (Pair × ℕ)
 before c k = counted-from c 0 k
 
 -- tables that agree at some places have the same counted pairs there
-pub from-same : (c d : Counts) (k n : ℕ) → ((i : ℕ) → k ≤ i → i < k + n → c (pair-at i) ≡ d (pair-at i)) → counted-from c k n ≡ counted-from d k n
+from-same : (c d : Counts) (k n : ℕ) → ((i : ℕ) → k ≤ i → i < k + n → c (pair-at i) ≡ d (pair-at i)) → counted-from c k n ≡ counted-from d k n
 from-same c d k zero h = refl
 from-same c d k (suc n) h =
     let here = h k (omega arith) (omega arith) in
@@ -41,10 +41,16 @@ from-parts c k (suc m) n =
     ≡ cond b (counted-from c (suc k) m) ((pair-at k, c (pair-at k)) ∷ counted-from c (suc k) m) ++ counted-from c (k + suc m) n)
     [ true ↦ later | false ↦ ap (λ xs. (pair-at k, c (pair-at k)) ∷ xs) later ]
 
+-- tables that agree from a place on have the same counted pairs from there on
+pub rest-same : (c d : Counts) (k : ℕ) → ((i : ℕ) → k ≤ i → i < pairs → c (pair-at i) ≡ d (pair-at i)) → rest c k ≡ rest d k
+unfolding rest
+rest-same c d k h = from-same c d k (pairs - k) (λ i a b. h i a (omega arith))
+
 pub parts : (c : Counts) (k : ℕ) → k ≤ pairs → counted-pairs c ≡ before c k ++ rest c k
+unfolding rest counted-pairs
 parts c k h =
     let e : pairs ≡ k + (pairs - k) = omega arith in
-    all-rest c ∙ ap (counted-from c 0) e ∙ from-parts c 0 k (pairs - k) ∙ ap (λ j. before c k ++ counted-from c j (pairs - k)) (zero-add k)
+    ap (counted-from c 0) e ∙ from-parts c 0 k (pairs - k) ∙ ap (λ j. before c k ++ counted-from c j (pairs - k)) (zero-add k)
 
 module _ (c : Counts) (p : Pair) (i : inside p ≡ true) (n : ℕ) where
   here : raised c p n p ≡ max (c p) n
@@ -65,7 +71,7 @@ module _ (c : Counts) (p : Pair) (i : inside p ≡ true) (n : ℕ) where
       (rest-here (raised c p n) (rank p) low (λ z. omega (arith, z, counts))
       ∙ (λ j. (at j, counts j) ∷ rest (raised c p n) (rank p + 1))
       ∙ ap (λ xs. (p, max (c p) n) ∷ xs)
-      (from-same (raised c p n) c (rank p + 1) (pairs - (rank p + 1)) (λ k a b. elsewhere k (omega arith) (λ e. omega arith))))
+      (rest-same (raised c p n) c (rank p + 1) (λ k a b. elsewhere k b (λ e. omega arith))))
 
   -- a pair raised past all that are counted comes last
   pub raised-last : 0 < n → ((k : ℕ) → rank p ≤ k → k < pairs → c (pair-at k) ≡ 0) → counted-pairs (raised c p n) ≡ counted-pairs c ++ (p, n) ∷ []

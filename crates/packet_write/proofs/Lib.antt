@@ -1,0 +1,5 @@
+pub mod Walking
+pub mod Placing
+pub mod Pairing
+pub mod Packets
+pub mod Back
