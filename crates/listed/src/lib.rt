@@ -247,4 +247,8 @@ pub impl CountedPairs for Listed as ListedCountedPairs {
             None
         }
     }
+
+    fn counted(&self) -> u16 {
+        self.len as u16
+    }
 }

@@ -1,4 +1,3 @@
-pub mod Walking
 pub mod Placing
 pub mod Pairing
 pub mod Packets

@@ -11,10 +11,9 @@ use Rattle.tally.specs.declared.pair.Pair.{Pair}
 use Rattle.tally.specs.Pairs.{start}
 use Rattle.tally.specs.Counts.{Counts, counted-pairs, counted}
 use Rattle.tally.specs.Answers.{next-counted}
-use Rattle.tally.proofs.Listing.{rest, all-rest, comes, comes-not}
+use Rattle.tally.proofs.Listing.{rest, all-rest, comes, comes-not, Goes}
 use Rattle.packet.specs.Packing.{pair-bytes}
 use Rattle.packet_write.specs.Writing.{placed}
-use Rattle.packet_write.proofs.Walking.{Goes}
 use Rattle.packet_write.proofs.Placing.{placed-none, placed-more}
 
 pub length-pairs : (xs : List (Pair × ℕ)) → length (joined pair-bytes xs) ≡ 4 * length xs

@@ -1,13 +1,11 @@
 // Packing messages.
 ghost use mathlib.Core.Path.{_≡_};
-ghost use mathlib.Core.Bool.{true};
 ghost use mathlib.Core.List.{List, [], _∷_, _++_};
 ghost use Prim.Native.Nat.{ℕ, _+_, _*_, _/_, _%_, _<_, _≤_};
 ghost use lib.ListN.{length, take, drop};
 ghost use Rattle.std.specs.Joined.{joined};
 ghost use Rattle.std.specs.Vec.{made};
 ghost use Rattle.std.specs.declared.result.Result.the-variants.{Ok as Read};
-ghost use Rattle.tally.specs.Pairs.{inside};
 ghost use Rattle.tally.specs.Counts.{counted-pairs, counted};
 ghost use Rattle.body.specs.Bytes.{over};
 ghost use Rattle.packet.specs.Messages.{meaning};
@@ -70,33 +68,6 @@ fn place(out: &mut [u8], at: usize, bytes: &[u8])
     out[at..at + bytes.len()].copy_from_slice(bytes);
 }
 
-// The pair after one in range.
-fn after(pair: Pair) -> Pair
-    requires { ⌜ inside pair ≡ true ⌝ }
-    ensures { λ r. ⌜ (r .station ≡ pair .station) × (r .handset ≡ pair .handset + 1) ⌝ }
-{
-    Pair {
-        station: pair.station,
-        handset: pair.handset + 1,
-    }
-}
-
-// How many pairs are counted.
-fn count_pairs<T: CountedPairs>(tag: &T) -> u16
-    ensures { λ r. ⌜ r ≡ counted (T·Tally .counts (now (tag .entry))) ⌝ }
-{
-    let mut pairs = 0;
-    let mut from = Pair {
-        station: 0,
-        handset: 0,
-    };
-    while let Some((pair, _count)) = tag.next_counted(from) {
-        pairs += 1;
-        from = after(pair);
-    }
-    pairs
-}
-
 // Writes the counted pairs from the thirteenth byte on; the place after them.
 fn place_pairs<T: CountedPairs>(out: &mut [u8], tag: &T) -> usize
     requires { ⌜ 13 + 4 * counted (T·Tally .counts (now tag)) ≤ length (now out) ⌝ }
@@ -111,7 +82,7 @@ fn place_pairs<T: CountedPairs>(out: &mut [u8], tag: &T) -> usize
     while let Some((pair, count)) = tag.next_counted(from) {
         place(out, at, &pair_bytes(pair, count));
         at += 4;
-        from = after(pair);
+        from = pair.after();
     }
     at
 }
@@ -135,7 +106,7 @@ pub fn pack<T: CountedPairs, B: Body>(
     ensures leaves { λ _. ⌜ now (out .exit) ≡ over (packet-bytes (B·Body .kind) (meaning (T·Tally .counts) (B·Body .bytes) (now (message .entry)))) (now (out .entry)) ⌝ }
     ensures reads_back { λ r. ⌜ made r (λ n. reading (B·Body .kind) (B·Body .lawful) (T·Tally .fits) (take n (now (out .exit))) ≡ Read (meaning (T·Tally .counts) (B·Body .bytes) (now (message .entry)))) ⌝ }
 {
-    let pairs = count_pairs(message.tag());
+    let pairs = message.tag().counted();
     let length = 14 + 4 * pairs as usize + message.body().size() as usize;
     if out.len() < length {
         return Err(PackFault::ShortBuffer);

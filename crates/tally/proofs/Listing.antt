@@ -13,10 +13,10 @@ use Rattle.std.specs.declared.option.Option.{Option}
 use Rattle.std.specs.declared.option.Option.the-variants.{Some, None}
 use Rattle.std.proofs.shelf.Tests.{cond-true, cond-false, cond-both, cases-bool, cases-lt, eqb-true, eqb-false, eq-eqb, ne-eqb, le-leb, lt-leb}
 use Rattle.tally.specs.declared.pair.Pair.{Pair}
-use Rattle.tally.specs.Pairs.{inside, pairs, rank, pair-at, start}
+use Rattle.tally.specs.Pairs.{inside, pairs, rank, pair-at, start, after}
 use Rattle.tally.specs.Counts.{Counts, none, counted-from, counted-pairs, counted}
 use Rattle.tally.specs.Answers.{first-from, next-counted}
-use Rattle.tally.proofs.Order.{inside-at, rank-at, from-start}
+use Rattle.tally.proofs.Order.{inside-at, rank-at, rank-below, from-start, start-after}
 
 -- the counted pairs from place k on
 unfoldable pub rest : Counts → ℕ → List (Pair × ℕ)
@@ -201,3 +201,19 @@ fewer c d less k (suc n) =
 pub counted-lowered : (c d : Counts) → ((p : Pair) → inside p ≡ true → d p ≤ c p) → counted d ≤ counted c
 unfolding counted-pairs
 counted-lowered c d less = fewer c d (λ n. less (pair-at n) (inside-at n)) 0 pairs
+
+-- from p the walk along the counted pairs comes to q with its count n, and goes on from r
+pub record Goes (c : Counts) (p q : Pair) (n : ℕ) (r : Pair) : Type 0 where
+  pub left : rest c (start p) ≡ (q, n) ∷ rest c (start r)
+  pub later : start p < start r
+  pub within : start r ≤ pairs
+
+pub goes : (c : Counts) (p q : Pair) (n : ℕ) (r : Pair) → next-counted c p ≡ Some (q, n) → r ≡ after q → Goes c p q n r
+goes c p q n r next e =
+    let x = comes c q n p next in
+    let on : start r ≡ rank q + 1 = ap start e ∙ start-after q (x .inn) in
+    record {
+      left = x .left ∙ ap (λ k. (q, n) ∷ rest c k) (sym on);
+      later = omega (arith, on, x .from);
+      within = omega (arith, on, rank-below q (x .inn));
+    }

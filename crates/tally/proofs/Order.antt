@@ -5,10 +5,10 @@ use mathlib.Core.Logic.{⊎-elim}
 use Prim.Native.Nat.{ℕ, _+_, _*_, _/_, _%_, _<_, _≤_}
 use native.Mathlib.Omega.{arith}
 use lib.Dec.{eqb, leb, ltb}
-use Rattle.std.proofs.shelf.Tests.{and-parts, and-from, ltb-true, lt-ltb, eqb-true, eq-eqb, cases-bool}
+use Rattle.std.proofs.shelf.Tests.{cond-true, and-parts, and-from, ltb-true, lt-ltb, eqb-true, eq-eqb, cases-bool}
 use Rattle.std.proofs.shelf.Ways.{tells}
 use Rattle.tally.specs.declared.pair.Pair.{Pair}
-use Rattle.tally.specs.Pairs.{inside, pairs, same, at-or-after, rank, pair-at, start}
+use Rattle.tally.specs.Pairs.{inside, pairs, same, at-or-after, rank, pair-at, start, after}
 
 -- a test that would follow from a wrong fact is false
 pub false-since : (b : Bool) → (b ≡ true → ⊥) → b ≡ false
@@ -60,3 +60,9 @@ at-pairs P h p i = subst P (at-rank p i) (h (rank p) (rank-below p i))
 -- the order, by places
 pub from-start : (p q : Pair) → inside q ≡ true → at-or-after p q ≡ leb (start p) (rank q)
 from-start p q i = let s = station-below q i in let h = handset-below q i in grind (arith, tells)
+
+-- the pair after one in range starts one place on
+pub start-after : (q : Pair) → inside q ≡ true → start (after q) ≡ rank q + 1
+start-after q i =
+    let low = handset-below q i in
+    ap start (cond-true _ _ _ (lt-ltb (q .handset) 255 (omega arith))) ∙ omega arith

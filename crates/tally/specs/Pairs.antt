@@ -7,7 +7,8 @@
 --   rank         a pair's place in that order, counted from 0
 --   pair-at      the pair in range at a place; past the last place the order begins anew
 --   start        the place of the first pair in range that stands at a pair or after it
-use mathlib.Core.Bool.{Bool, _&&_, _||_}
+--   after        the pair that comes next, of all whose station and handset are at most 255; the last is its own next
+use mathlib.Core.Bool.{Bool, cond, _&&_, _||_}
 use Prim.Native.Nat.{ℕ, _+_, _*_, _/_, _%_, min}
 use lib.Dec.{eqb, leb, ltb}
 use Rattle.tally.specs.declared.pair.Pair.{Pair}
@@ -34,3 +35,8 @@ pair-at n = record { station = n / 32 % 8; handset = n % 32 }
 -- 256 or more where no pair in range stands there
 abbrev pub start : Pair → ℕ
 start p = p .station * 32 + min (p .handset) 32
+
+abbrev pub after : Pair → Pair
+after p =
+    cond (ltb (p .handset) 255) (record { station = p .station; handset = p .handset + 1 })
+    (cond (ltb (p .station) 255) (record { station = p .station + 1; handset = 0 }) p)

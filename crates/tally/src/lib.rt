@@ -5,7 +5,7 @@ ghost use Prim.Native.Nat.{ℕ, _≤_, max};
 ghost use Rattle.std.specs.Results.{Cases};
 ghost use Rattle.std.specs.Orderings.{When};
 ghost use Rattle.tally.specs.declared.pair.Pair.{Pair};
-ghost use Rattle.tally.specs.Pairs.{inside, same, rank, pair-at, start};
+ghost use Rattle.tally.specs.Pairs.{inside, same, rank, pair-at, start, after};
 ghost use Rattle.tally.specs.Counts.{Counts, none, raised, larger, counted};
 ghost use Rattle.tally.specs.Answers.{verdict, raises, raising, next-counted};
 
@@ -39,6 +39,25 @@ impl Pair {
         ensures { λ r. ⌜ r ≡ start self ⌝ }
     {
         self.station as usize * 32 + usize::min(self.handset as usize, 32)
+    }
+
+    // The pair that comes next in the order, in range or not.
+    pub fn after(self) -> Pair
+        ensures { λ r. ⌜ r ≡ after self ⌝ }
+    {
+        if self.handset < u8::MAX {
+            return Pair {
+                station: self.station,
+                handset: self.handset + 1,
+            };
+        }
+        if self.station < u8::MAX {
+            return Pair {
+                station: self.station + 1,
+                handset: 0,
+            };
+        }
+        self
     }
 
     // The pair at a place; past the last place the order begins anew.
@@ -134,4 +153,20 @@ pub trait CountedPairs: Tally {
     // The first pair at or after `from` whose count is not 0, with that count.
     fn next_counted(&self, from: Pair) -> Option<(Pair, u16)>
         ensures { λ r. ⌜ r ≡ next-counted (Self·Tally .counts (now (self .entry))) from ⌝ };
+
+    // How many pairs have a count that is not 0.
+    fn counted(&self) -> u16
+        ensures { λ r. ⌜ r ≡ counted (Self·Tally .counts (now (self .entry))) ⌝ }
+    {
+        let mut pairs = 0;
+        let mut from = Pair {
+            station: 0,
+            handset: 0,
+        };
+        while let Some((pair, _count)) = self.next_counted(from) {
+            pairs += 1;
+            from = pair.after();
+        }
+        pairs
+    }
 }

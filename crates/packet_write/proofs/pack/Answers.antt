@@ -20,7 +20,7 @@ pub returns-then-out-length : need.returns-then-out-length
 returns-then-out-length g c =
     let m : Content = meaning (g .T·Tally .counts) (g .B·Body .bytes) (c .args .message .now) in
     let packet = packet-bytes (g .B·Body .kind) m in
-    let pairs : c .count-pairs-pairs .result ≡ counted (m .counts) = c .count-pairs-pairs .ensures ∙ ap (λ t. counted (g .T·Tally .counts t)) (c .tag .ensures) in
+    let pairs : c .counted-pairs .result ≡ counted (m .counts) = c .counted-pairs .ensures ∙ ap (λ t. counted (g .T·Tally .counts t)) (c .tag .ensures) in
     let size : c .size .result ≡ length (m .body) = c .size .ensures ∙ ap (λ b. length (g .B·Body .bytes b)) (c .body .ensures) in
     let short : length (c .args .out .now) < length packet = omega (arith, length-packet (g .B·Body .kind) m, pairs, size, c .if-out-length .taken) in
     record { answers = sym (cond-false _ _ _ (lt-leb _ _ short)); leaves = sym (cond-false _ _ _ (lt-leb _ _ short)); reads-back = tt }
@@ -34,9 +34,9 @@ returns g c =
     let m : Content = meaning counts bytes (c .args .message .now) in
     let packet = packet-bytes kind m in
     let out = c .args .out .now in
-    let pairs : c .count-pairs-pairs .result ≡ counted (m .counts) = c .count-pairs-pairs .ensures ∙ ap (λ t. counted (g .T·Tally .counts t)) (c .tag .ensures) in
+    let pairs : c .counted-pairs .result ≡ counted (m .counts) = c .counted-pairs .ensures ∙ ap (λ t. counted (g .T·Tally .counts t)) (c .tag .ensures) in
     let size : c .size .result ≡ length (m .body) = c .size .ensures ∙ ap (λ b. length (g .B·Body .bytes b)) (c .body .ensures) in
-    let answer : 14 + 4 * c .count-pairs-pairs .result + c .size .result ≡ length packet = omega (arith, length-packet kind m, pairs, size) in
+    let answer : 14 + 4 * c .counted-pairs .result + c .size .result ≡ length packet = omega (arith, length-packet kind m, pairs, size) in
     let room : length packet ≤ length out = omega (arith, answer, c .if-out-length .left) in
     let head : c .place .last .out ≡ placed 0 (head-bytes kind (m .head) (counted (m .counts))) out =
     c .place .ensures ∙ ap (λ bs. placed 0 bs out) (c .head-bytes .ensures ∙ (λ i. head-bytes (c .kind .ensures i) (c .head .ensures i) (pairs i))) in
@@ -46,7 +46,7 @@ returns g c =
     let with-body : c .place-body .last .out ≡ placed (13 + 4 * counted (m .counts)) (length (m .body) ∷ m .body) (c .place-pairs-at .last .out) =
     c .place-body .ensures ∙ (λ i. placed (after-pairs i) (length (bytes (c .body-2 .ensures i)) ∷ bytes (c .body-2 .ensures i)) (c .place-pairs-at .last .out)) in
     let written = with-body ∙ ap (placed (13 + 4 * counted (m .counts)) (length (m .body) ∷ m .body)) (with-pairs ∙ ap (placed 13 (pairs-part kind m)) head) ∙ written-in-parts kind m out room in
-    let front : take (14 + 4 * c .count-pairs-pairs .result + c .size .result) (c .place-body .last .out) ≡ packet =
+    let front : take (14 + 4 * c .counted-pairs .result + c .size .result) (c .place-body .last .out) ≡ packet =
     (λ i. take (answer i) ((written ∙ cond-true _ _ _ (le-leb _ _ room)) i)) ∙ take-at packet (drop (length packet) out) (length packet) refl in
     let carries : Lawful (g .B·Body .lawful) (g .T·Tally .fits) m =
     record {

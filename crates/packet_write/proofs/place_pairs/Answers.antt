@@ -3,7 +3,7 @@ use Prim.Native.Nat.{_+_, _≤_}
 use native.Mathlib.Omega.{arith}
 use lib.ListN.{length}
 use Rattle.packet_write.specs.Writing.{placed}
-use Rattle.packet_write.proofs.Walking.{comes-inside, Goes, goes}
+use Rattle.tally.proofs.Listing.{Goes, goes}
 use Rattle.packet_write.proofs.Pairing.{written-none, room, written-more, written-all}
 use Rattle.packet_write.proofs.place_pairs.Given.{Over}
 use Rattle.packet_write.proofs.place_pairs.Needs as need
@@ -11,14 +11,9 @@ use Rattle.packet_write.proofs.place_pairs.Needs as need
 pub loop-pair-holds : need.loop-pair-holds
 loop-pair-holds g c = (omega arith, written-none (g .T·Tally .counts (c .args .tag .now)) _ (c .args .out .now) refl)
 
-pub after-from-requires : need.after-from-requires
-after-from-requires g c κs =
-    comes-inside (g .T·Tally .counts (c .args .tag .now)) (c .loop-pair .from) (c .in-Some .pair) (c .in-Some .count) (sym (c .in-Some .ensures tt))
-
 going : (g : Over) (c : need.After-after-from g) → Goes (g .T·Tally .counts (c .args .tag .now)) (c .loop-pair .from) (c .in-Some .pair) (c .in-Some .count) (c .after-from .result)
 going g c =
-    goes (g .T·Tally .counts (c .args .tag .now)) (c .loop-pair .from) (c .in-Some .pair) (c .in-Some .count) (sym (c .in-Some .ensures tt))
-    (c .after-from .result) (c .after-from .ensures .0) (c .after-from .ensures .1)
+    goes (g .T·Tally .counts (c .args .tag .now)) (c .loop-pair .from) (c .in-Some .pair) (c .in-Some .count) (c .after-from .result) (sym (c .in-Some .ensures tt)) (c .after-from .ensures)
 
 pub place-requires : need.place-requires
 place-requires g c κs =
