@@ -1,1 +1,4 @@
+pub mod Adding
 pub mod Pairing
+pub mod Digits
+pub mod Lines

@@ -19,9 +19,9 @@ use Rattle.body.specs.Printable.{note-lawful}
 use Rattle.tally.specs.Counts.{Counts}
 use Rattle.packet.specs.Reading.{reading}
 use Rattle.packet_text.specs.declared.line.TallyKind.{TallyKind}
-use Rattle.packet_text.specs.declared.line.TallyKind.the-variants.{FullKind, ListedKind}
+use Rattle.packet_text.specs.declared.line.TallyKind.the-variants.{Full, Listed}
 use Rattle.packet_text.specs.declared.line.BodyKind.{BodyKind}
-use Rattle.packet_text.specs.declared.line.BodyKind.the-variants.{CodeKind, NoteKind}
+use Rattle.packet_text.specs.declared.line.BodyKind.the-variants.{Code, Note}
 use Rattle.packet_text.specs.Hex.{hex-text}
 use Rattle.packet_text.specs.Printing.{code-text, note-text, outcome-text}
 
@@ -31,12 +31,12 @@ pub record Asked : Type 0 where
   pub packet : List ℕ
 
 abbrev pub tally-word : TallyKind → List ℕ
-tally-word FullKind = codes "full "
-tally-word ListedKind = codes "listed "
+tally-word Full = codes "full "
+tally-word Listed = codes "listed "
 
 abbrev pub body-word : BodyKind → List ℕ
-body-word CodeKind = codes "code "
-body-word NoteKind = codes "note "
+body-word Code = codes "code "
+body-word Note = codes "note "
 
 abbrev pub line-text : Asked → List ℕ
 line-text a = tally-word (a .tally) ++ (body-word (a .body) ++ hex-text (a .packet))
@@ -47,20 +47,20 @@ pub record Asks (line : List ℕ) (a : Asked) : Type 0 where
   pub short : length line ≤ 4096
 
 abbrev pub fits-of : TallyKind → Counts → Bool
-fits-of FullKind = full-fits
-fits-of ListedKind = listed-fits
+fits-of Full = full-fits
+fits-of Listed = listed-fits
 
 abbrev pub kind-of : BodyKind → ℕ
-kind-of CodeKind = 1
-kind-of NoteKind = 2
+kind-of Code = 1
+kind-of Note = 2
 
 abbrev pub lawful-of : BodyKind → List ℕ → Bool
-lawful-of CodeKind = code-lawful
-lawful-of NoteKind = note-lawful
+lawful-of Code = code-lawful
+lawful-of Note = note-lawful
 
 abbrev pub text-of : BodyKind → List ℕ → List ℕ
-text-of CodeKind = code-text
-text-of NoteKind = note-text
+text-of Code = code-text
+text-of Note = note-text
 
 abbrev pub reply : Asked → List ℕ
 reply a =

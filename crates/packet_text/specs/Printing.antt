@@ -46,12 +46,13 @@ abbrev pub accepted-text : ℕ → (List ℕ → List ℕ) → Content → List 
 accepted-text kind text m =
     head-text (m .head) (counted (m .counts)) ++ (joined pair-text (counted-pairs (m .counts)) ++ (text (m .body) ++ (codes " " ++ hex-text (packet-bytes kind m))))
 
-abbrev pub pair-named : Option Pair → List ℕ
-pair-named None = []
-pair-named (Some p) = number (p .station) ++ number (p .handset)
+-- a byte place, and the pair behind it, if any
+abbrev pub place-text : ℕ → Option Pair → List ℕ
+place-text n None = number n
+place-text n (Some p) = number n ++ (number (p .station) ++ number (p .handset))
 
 abbrev pub refused-text : Told → List ℕ
-refused-text t = codes "no" ++ (number (t .number) ++ (number (t .place) ++ pair-named (t .pair)))
+refused-text t = codes "no" ++ (number (t .number) ++ place-text (t .place) (t .pair))
 
 abbrev pub outcome-text : ℕ → (List ℕ → List ℕ) → Result Content Told → List ℕ
 outcome-text kind text (Ok m) = accepted-text kind text m

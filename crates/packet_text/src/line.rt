@@ -1,13 +1,13 @@
 // The kind of tally with which a packet is to be read.
 #[derive(Clone, Copy)]
 pub enum TallyKind {
-    FullKind,
-    ListedKind,
+    Full,
+    Listed,
 }
 
 // The kind of body that a packet is to carry.
 #[derive(Clone, Copy)]
 pub enum BodyKind {
-    CodeKind,
-    NoteKind,
+    Code,
+    Note,
 }

@@ -14,12 +14,21 @@ ghost use Rattle.packet.specs.Messages.{meaning};
 ghost use Rattle.packet.specs.Packing.{packet-bytes};
 ghost use Rattle.packet.specs.Reading.{reading};
 ghost use Rattle.packet_text.specs.Hex.{hex-digit, hex-text};
-ghost use Rattle.packet_text.specs.Printing.{number, pair-text, code-text, note-text, head-text, accepted-text, pair-named, refused-text, outcome-text};
+ghost use Rattle.packet_text.specs.Lines.{reply};
+ghost use Rattle.packet_text.specs.Printing.{number, pair-text, code-text, note-text, head-text, accepted-text, refused-text, outcome-text};
+use crate::line::BodyKind;
+use crate::line::TallyKind;
 use body::Body;
 use body::CallCode;
 use body::CallCodeBody;
 use body::Note;
 use body::NoteBody;
+use full::Full;
+use full::FullCountedPairs;
+use full::FullTally;
+use listed::Listed;
+use listed::ListedCountedPairs;
+use listed::ListedTally;
 use packet::Fault;
 use packet::Head;
 use packet::Message;
@@ -127,25 +136,24 @@ pub impl Printed for Note as NotePrinted {
     }
 }
 
-// The pair that a refusal names, if any.
-fn push_named(out: &mut String, pair: Option<Pair>) -> fmt::Result
-    ensures { λ r. ⌜ made r (λ _. string-bytes (now (out .exit)) ≡ string-bytes (now (out .entry)) ++ pair-named pair) ⌝ }
-{
-    match pair {
-        None => Ok(()),
-        Some(pair) => write!(out, " {} {}", pair.station, pair.handset),
-    }
-}
-
 fn push_fault(out: &mut String, fault: Fault) -> fmt::Result
     ensures { λ r. ⌜ made r (λ _. string-bytes (now (out .exit)) ≡ string-bytes (now (out .entry)) ++ refused-text (tells fault)) ⌝ }
 {
-    write!(out, "no {} {}", fault.number(), fault.place())?;
-    push_named(out, fault.pair())
+    match fault.pair() {
+        None => write!(out, "no {} {}", fault.number(), fault.place()),
+        Some(pair) => write!(
+            out,
+            "no {} {} {} {}",
+            fault.number(),
+            fault.place(),
+            pair.station,
+            pair.handset
+        ),
+    }
 }
 
 // The most bytes of a packet: 256 pairs, and a body of 255 bytes.
-const LONGEST: usize = 1293;
+const LONGEST_PACKET: usize = 1293;
 
 fn push_message<T: CountedPairs, B: Printed>(
     out: &mut String,
@@ -153,7 +161,7 @@ fn push_message<T: CountedPairs, B: Printed>(
 ) -> fmt::Result
     ensures { λ r. ⌜ made r (λ _. string-bytes (now (out .exit)) ≡ string-bytes (now (out .entry)) ++ accepted-text (B·Body .kind) (B·Printed .text) (meaning (T·Tally .counts) (B·Body .bytes) (now (message .entry)))) ⌝ }
 {
-    let mut packet = [0; 1293];
+    let mut packet = [0; LONGEST_PACKET];
     let Ok(length) = packet_write::pack(message, &mut packet) else {
         unreachable()
     };
@@ -161,5 +169,32 @@ fn push_message<T: CountedPairs, B: Printed>(
     push_pairs(out, message.tag())?;
     message.body().print(out)?;
     write!(out, " ")?;
-    push_hex(out, &packet[0..length])
+    push_hex(out, &packet[..length])
+}
+
+// What is printed of a packet that is read with some kind of tally and of body.
+fn push_packet<T: CountedPairs, B: Printed>(out: &mut String, packet: &[u8]) -> fmt::Result
+    ensures { λ r. ⌜ made r (λ _. string-bytes (now (out .exit)) ≡ string-bytes (now (out .entry)) ++ outcome-text (B·Body .kind) (B·Printed .text) (reading (B·Body .kind) (B·Body .lawful) (T·Tally .fits) (now (packet .entry)))) ⌝ }
+{
+    match packet_read::read::<T, B>(packet) {
+        Ok(message) => push_message(out, &message),
+        Err(fault) => push_fault(out, fault),
+    }
+}
+
+// What is printed of a packet by the kinds that are asked for.
+pub(crate) fn push_reply(
+    out: &mut String,
+    tally: TallyKind,
+    body: BodyKind,
+    packet: &[u8],
+) -> fmt::Result
+    ensures { λ r. ⌜ made r (λ _. string-bytes (now (out .exit)) ≡ string-bytes (now (out .entry)) ++ reply (record { tally = tally; body = body; packet = now (packet .entry) })) ⌝ }
+{
+    match (tally, body) {
+        (TallyKind::Full, BodyKind::Code) => push_packet::<Full, CallCode>(out, packet),
+        (TallyKind::Full, BodyKind::Note) => push_packet::<Full, Note>(out, packet),
+        (TallyKind::Listed, BodyKind::Code) => push_packet::<Listed, CallCode>(out, packet),
+        (TallyKind::Listed, BodyKind::Note) => push_packet::<Listed, Note>(out, packet),
+    }
 }

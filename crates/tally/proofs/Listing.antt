@@ -202,6 +202,17 @@ pub counted-lowered : (c d : Counts) → ((p : Pair) → inside p ≡ true → d
 unfolding counted-pairs
 counted-lowered c d less = fewer c d (λ n. less (pair-at n) (inside-at n)) 0 pairs
 
+-- no more pairs are counted than there are
+at-most : (c : Counts) (k n : ℕ) → length (counted-from c k n) ≤ n
+at-most c k zero = omega arith
+at-most c k (suc n) =
+    let more = at-most c (suc k) n in
+    cond-both (eqb (c (pair-at k)) 0) (counted-from c (suc k) n) _ (λ xs. length xs ≤ suc n) (λ _. omega (arith, more)) (λ _. omega (arith, more))
+
+pub counted-most : (c : Counts) → counted c ≤ pairs
+unfolding counted-pairs
+counted-most c = at-most c 0 pairs
+
 -- from p the walk along the counted pairs comes to q with its count n, and goes on from r
 pub record Goes (c : Counts) (p q : Pair) (n : ℕ) (r : Pair) : Type 0 where
   pub left : rest c (start p) ≡ (q, n) ∷ rest c (start r)
