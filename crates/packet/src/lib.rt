@@ -17,6 +17,7 @@ mod message;
 pub use fault::Fault;
 pub use fault::PackFault;
 pub use head::Head;
+pub use head::HeadPartialEq;
 pub use message::Message;
 
 impl Head {
