@@ -8,6 +8,9 @@ use crate::code::CallCode;
 // the number of this kind of body
 const KIND: u8 = 1;
 
+// how many bytes a call code tells
+const SIZE: u8 = 2;
+
 pub impl Body for CallCode as CallCodeBody {
     ghost kind = { 1 };
 
@@ -20,7 +23,7 @@ pub impl Body for CallCode as CallCodeBody {
     }
 
     fn size(&self) -> u8 {
-        2
+        SIZE
     }
 
     fn write(&self, out: &mut [u8]) -> bool {

@@ -36,7 +36,7 @@ impl StationFault {
         ensures { λ r. ⌜ r ≡ fault-pair self ⌝ }
     {
         match self {
-            StationFault::Counts(refusal) => refusal.pair,
+            StationFault::Counts(named) => named.pair,
         }
     }
 }
