@@ -1,6 +1,6 @@
 use mathlib.Core.Path.{refl, sym, ap, _∙_}
 use mathlib.Core.Bool.{true}
-use Prim.Native.Nat.{ℕ, _-_}
+use Prim.Native.Nat.{ℕ, _-_, _≤_}
 use native.Mathlib.Omega.{arith}
 use lib.ListN.{length, take, drop, replicate}
 use Rattle.std.specs.declared.option.Option.the-variants.{Some}
@@ -18,7 +18,7 @@ ghost-result c =
     let is = c .padded .ensures in (
       ap length is ∙ length-append told zeros ∙ omega (arith, length-replicate {A = ℕ} (24 - n) 0, c .if-told-gt-MOST .left),
       (
-        c .if-told-gt-MOST .left,
+        omega (arith, c .if-told-gt-MOST .left),
         (
           ap (λ t. printable (take n t)) is ∙ ap printable (take-at told zeros n refl) ∙ sym (c .if-not-all-printable .ensures tt),
           (ap (drop n) is ∙ drop-at told zeros n refl, tt),
@@ -30,5 +30,6 @@ pub returns : need.returns
 returns c =
     let told = c .args .told .now in
     let n = length told in
+    let few : n ≤ 24 = omega (arith, c .if-told-gt-MOST .left) in
     ap Some (ap (take n) (c .padded .ensures) ∙ take-at told (replicate (24 - n) 0) n refl)
-    ∙ sym (cond-true _ _ _ (and-from _ _ (le-leb _ _ (c .if-told-gt-MOST .left)) (sym (c .if-not-all-printable .ensures tt))))
+    ∙ sym (cond-true _ _ _ (and-from _ _ (le-leb n 24 few) (sym (c .if-not-all-printable .ensures tt))))
