@@ -1,4 +1,6 @@
 // The questions about what the tables name and hold, which every step is put first.
+#![tactic(auto)]
+
 ghost use Rattle.std.specs.Prelude.{◌≡◌, OnOk};
 ghost use Rattle.questions.specs.Asking.{first_no};
 ghost use Rattle.rules.specs.Sound.{sound as soundness};

@@ -1,4 +1,6 @@
 // What a message carries: a body, told as bytes.
+#![tactic(auto)]
+
 ghost use Rattle.std.specs.Prelude.{◌≡◌, ℕ, ◌≤◌, Bool, true, List, length, nat_le};
 ghost use Rattle.std.specs.Option.{option_map};
 ghost use Rattle.body.specs.Bytes.{over, told_back};

@@ -1,4 +1,6 @@
 // Parts of a house that look at one handset's row and its places, or at one station's.
+#![tactic(auto)]
+
 ghost use Rattle.std.specs.Prelude.{◌≡◌, ℕ, if◌then◌else◌, Ok, Err, slice_index};
 ghost use Rattle.queue.specs.declared.QueueFull.{QueueFull as Full};
 ghost use Rattle.book.specs.Ripening.{ripe_for, first_place, tag_of as tag-counts};

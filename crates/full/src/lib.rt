@@ -1,4 +1,6 @@
 // The kind of tally that keeps a count for every pair.
+#![tactic(auto)]
+
 ghost use Rattle.std.specs.Prelude.{◌≡◌, ℕ, ◌<◌, ◌≤◌, max, true, length, slice_index};
 ghost use Rattle.tally.specs.Pairs.{inside, rank};
 ghost use Rattle.full.specs.Cells.{of_cells, full_fits};

@@ -1,4 +1,6 @@
 // The calls on a house.
+#![tactic(auto)]
+
 mod moves;
 mod queues;
 mod writes;

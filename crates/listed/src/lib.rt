@@ -1,4 +1,6 @@
 // The kind of tally that lists the counts that are not 0.
+#![tactic(auto)]
+
 ghost use Rattle.std.specs.Prelude.{◌≡◌, ℕ, ◌+◌, ◌<◌, ◌≤◌, true, false, List, ◌∷◌, ◌++◌, length, take, drop, if◌then◌else◌, Err, MatchResult};
 ghost use Rattle.tally.specs.Counts.{raised, larger, counted_pairs, count_of, none_above};
 ghost use Rattle.tally.specs.Answers.{verdict};

@@ -1,4 +1,6 @@
 // Packets on the wire: what they carry, and why they are refused.
+#![tactic(auto)]
+
 ghost use Rattle.std.specs.Prelude.{◌≡◌, ℕ, if◌then◌else◌, Some, None};
 ghost use Rattle.std.specs.Option.{option_map};
 ghost use Rattle.packet.specs.declared.fault.Fault.{Fault as PacketFault};

@@ -1,4 +1,6 @@
 // Reading packets: which message a packet carries, or why it is refused.
+#![tactic(auto)]
+
 ghost use Rattle.std.specs.Prelude.{◌≡◌, ℕ, suc, ◌+◌, ◌-◌, ◌*◌, ◌/◌, ◌<◌, ◌≤◌, Bool, true, ◌&&◌, List, [], ◌∷◌, ◌++◌, length, IfOk, Some, OnOk, ◌==◌, nat_le};
 ghost use Rattle.std.specs.Option.{option_map};
 ghost use Rattle.tally.specs.declared.pair.Pair.{Pair as TallyPair};

@@ -1,4 +1,6 @@
 // Examples of tallies, bodies and packets, with their outcomes.
+#![tactic(auto)]
+
 #[cfg(test)]
 mod bodies;
 #[cfg(test)]

@@ -1,4 +1,6 @@
 // Packets in lines of text: what a line asks, and what is printed in answer.
+#![tactic(auto)]
+
 ghost use Rattle.std.specs.Prelude.{IfOk, string_bytes};
 ghost use Rattle.packet_text.specs.Lines.{Answers};
 

@@ -1,4 +1,6 @@
 // Packing messages.
+#![tactic(auto)]
+
 ghost use Rattle.std.specs.Prelude.{◌≡◌, ℕ, ◌+◌, ◌*◌, ◌/◌, ◌%◌, ◌<◌, ◌≤◌, List, [], ◌∷◌, ◌++◌, length, take, IfOk, Ok as Read};
 ghost use Rattle.std.specs.List.{flat_map};
 ghost use Rattle.tally.specs.Counts.{counted_pairs, counted};

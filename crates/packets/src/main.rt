@@ -1,4 +1,6 @@
 // Reads lines that carry packets from standard input, and prints for each what its packet says or why it is refused.
+#![tactic(auto)]
+
 use packet_text::answer;
 use std::io;
 use std::io::{BufRead, BufReader, Write};

@@ -1,5 +1,7 @@
 // One queue for elements of any kind, over places that the caller lends. What stands in it is the first `len` places, and
 // all of them where `len` is past the last. The caller keeps `len`.
+#![tactic(auto)]
+
 ghost use Rattle.std.specs.Prelude.{◌≡◌, ℕ, ◌+◌, ◌-◌, ◌<◌, ◌≤◌, List, [], ◌∷◌, ◌++◌, length, drop, slice_set};
 ghost use Rattle.std.specs.List.{slice_get};
 ghost use Rattle.queue.specs.Standing.{standing, filled, without_at, with_front, putting};

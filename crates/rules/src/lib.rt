@@ -1,5 +1,7 @@
 // The rules of a house as definitions, over the calls, answers and places of the code; the proofs about them; and the
 // refusals with their numbers.
+#![tactic(auto)]
+
 ghost use Rattle.std.specs.Prelude.{◌≡◌};
 ghost use Rattle.rules.specs.declared.fault.HouseFault.{HouseFault as Fault};
 ghost use Rattle.rules.specs.declared.fault.HouseFault.TheVariants.{Station as FaultStation};

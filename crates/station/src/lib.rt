@@ -1,4 +1,6 @@
 // Parts of a station that need no other station.
+#![tactic(auto)]
+
 ghost use Rattle.std.specs.Prelude.{◌≡◌, suc, MatchResult};
 ghost use Rattle.tally.specs.Counts.{raised, larger};
 ghost use Rattle.tally.specs.Answers.{verdict, raising};

@@ -1,5 +1,7 @@
 // The tables of a house: what they hold, what they say, and readers of single entries. A reader answers every number:
 // past a table's end it answers as a newly opened house would.
+#![tactic(auto)]
+
 ghost use Rattle.std.specs.Prelude.{◌≡◌, ℕ, if◌then◌else◌, None, nat_lt};
 ghost use Rattle.rules.specs.Sound.{on};
 ghost use Rattle.tables.specs.View.{counts_of, notice_lengths, passed_of, places_of, handed_of, carried_of, unread_lengths, back_lengths, rows_of, stages_of};

@@ -1,4 +1,6 @@
 // What every kind of tally means: how many messages each station is known to have sent to each handset.
+#![tactic(auto)]
+
 ghost use Rattle.std.specs.Prelude.{◌≡◌, ℕ, ◌≤◌, max, Bool, true, false, if◌then◌else◌, MatchBool, MatchResult};
 ghost use Rattle.tally.specs.declared.pair.Pair.{Pair};
 ghost use Rattle.tally.specs.Pairs.{inside, same, rank, pair_at, start, after};
