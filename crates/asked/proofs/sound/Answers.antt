@@ -2,10 +2,10 @@ use Rattle.std.proofs.Common.{rules}
 use Rattle.rules.specs.Sound.{sound}
 use Rattle.asked.proofs.sound.Goals as goal
 
-pub returns-then-handsets-sound : goal.returns-then-handsets-sound
+pub returns-then-handsets_sound : goal.returns-then-handsets_sound
 unfolding sound
-returns-then-handsets-sound g c = search rules
+returns-then-handsets_sound g c = search rules
 
-pub returns-else-handsets-sound : goal.returns-else-handsets-sound
+pub returns-else-handsets_sound : goal.returns-else-handsets_sound
 unfolding sound
-returns-else-handsets-sound g c = search rules
+returns-else-handsets_sound g c = search rules

@@ -5,26 +5,26 @@ use Rattle.book.proofs.Comparing.{ripe_none, ripe_more, ripe_short, ripe_all, fi
 use Rattle.book.proofs.first_ripe.Goals as goal
 
 pub loop-station-init : goal.loop-station-init
-loop-station-init g c = ripe_none (λ i. get_or c.args.handed.now i 0) c.args.handset (g.T.Tally.counts c.tag-of-tag.result)
+loop-station-init g c = ripe_none (λ i. get_or c.args.handed.now i 0) c.args.handset (g.T.Tally.counts c.tag_of-tag.result)
 
 pub loop-station-preserved : goal.loop-station-preserved
 loop-station-preserved g c =
-    ripe_more (λ i. get_or c.args.handed.now i 0) c.args.handset (g.T.Tally.counts c.tag-of-tag.result) c.loop-station.station
-    (omega (arith, c.count.ensures, c.handed-at.ensures)) c.loop-station.invariant
+    ripe_more (λ i. get_or c.args.handed.now i 0) c.args.handset (g.T.Tally.counts c.tag_of-tag.result) c.loop-station.station
+    (omega (arith, c.count.ensures, c.handed_at.ensures)) c.loop-station.invariant
 
 pub names-preserved : goal.names-preserved
 names-preserved g c =
     first_more _ c.args.names.now c.names.at 0 c.names-test.true
-    (ap (λ (tag : Counts). ripe_for c.args.stations (λ i. get_or c.args.handed.now i 0) c.args.handset tag) (sym c.tag-of-tag.ensures)
-    ∙ ripe_short (λ i. get_or c.args.handed.now i 0) c.args.handset (g.T.Tally.counts c.tag-of-tag.result) c.loop-station.station c.args.stations
-    c.loop-station-test.true (omega (arith, c.count.ensures, c.handed-at.ensures)))
+    (ap (λ (tag : Counts). ripe_for c.args.stations (λ i. get_or c.args.handed.now i 0) c.args.handset tag) (sym c.tag_of-tag.ensures)
+    ∙ ripe_short (λ i. get_or c.args.handed.now i 0) c.args.handset (g.T.Tally.counts c.tag_of-tag.result) c.loop-station.station c.args.stations
+    c.loop-station-test.true (omega (arith, c.count.ensures, c.handed_at.ensures)))
     c.names.invariant
 
 pub returns-in-names : goal.returns-in-names
 returns-in-names g c =
     first_stop _ c.args.names.now c.names.at 0 c.names-test.true
-    (ap (λ (tag : Counts). ripe_for c.args.stations (λ i. get_or c.args.handed.now i 0) c.args.handset tag) (sym c.tag-of-tag.ensures)
-    ∙ ripe_all (λ i. get_or c.args.handed.now i 0) c.args.handset (g.T.Tally.counts c.tag-of-tag.result) c.loop-station.station c.args.stations
+    (ap (λ (tag : Counts). ripe_for c.args.stations (λ i. get_or c.args.handed.now i 0) c.args.handset tag) (sym c.tag_of-tag.ensures)
+    ∙ ripe_all (λ i. get_or c.args.handed.now i 0) c.args.handset (g.T.Tally.counts c.tag_of-tag.result) c.loop-station.station c.args.stations
     c.loop-station.auto.station-end c.loop-station-test.false c.loop-station.invariant)
     c.names.invariant
 

@@ -4,7 +4,7 @@ use Rattle.book.proofs.take_in.Goals as goal
 
 pub returns : goal.returns
 returns g c = record {
-  answers = c.take-at.ensures.answers ∙ take_answer c.args.row c.args.width c.args.places.now c.if-end-places.false c.args.len c.args.at;
-  leaves = take_leaves c.args.row c.args.width c.args.places.now c.if-end-places.false c.args.len c.args.at c.take-at.new.places
-      c.take-at.ensures.leaves;
+  answers = c.take_at.ensures.answers ∙ take_answer c.args.row c.args.width c.args.places.now c.if-end-places.false c.args.len c.args.at;
+  leaves = take_leaves c.args.row c.args.width c.args.places.now c.if-end-places.false c.args.len c.args.at c.take_at.new.places
+      c.take_at.ensures.leaves;
 }

@@ -11,6 +11,6 @@ returns c =
     let x = c.args.entry in
     record {
       sized = search (rules, overwrites);
-      holds = shifted xs n at x c.requires.within (omega arith) c.rotate-right.new.self _
-          (rotated xs n at x c.requires.within (omega arith) c.rotate-right.new.self c.rotate-right.ensures.after);
+      holds = shifted xs n at x c.requires.within (omega arith) c.rotate_right.new.self _
+          (rotated xs n at x c.requires.within (omega arith) c.rotate_right.new.self c.rotate_right.ensures.after);
     }

@@ -13,7 +13,7 @@ loop-entry-init c =
     let ys = c.args.second.now in (
       c.requires.sized,
       omega arith,
-      (0, merging_none (count_of xs) (count_of ys) (in_order_ranged xs c.requires.first-ordered) (in_order_ranged ys c.requires.second-ordered) xs ys c.requires.first-ordered c.requires.second-ordered),
+      (0, merging_none (count_of xs) (count_of ys) (in_order_ranged xs c.requires.first_ordered) (in_order_ranged ys c.requires.second_ordered) xs ys c.requires.first_ordered c.requires.second_ordered),
     )
 
 pub returns-then-len-eq-PLACES : goal.returns-then-len-eq-PLACES
@@ -22,9 +22,9 @@ returns-then-len-eq-PLACES c =
     let ys = c.args.second.now in
     let so_far = c.loop-entry.invariant.2 in
     let done = take c.loop-entry.len c.loop-entry.merged in
-    merging_stops (count_of xs) (count_of ys) (in_order_ranged xs c.requires.first-ordered) (in_order_ranged ys c.requires.second-ordered)
+    merging_stops (count_of xs) (count_of ys) (in_order_ranged xs c.requires.first_ordered) (in_order_ranged ys c.requires.second_ordered)
     c.loop-entry.a.now c.loop-entry.b.now done so_far.0 so_far.1
-    c.in-Some.entry.0 c.in-Some.entry.1 (sym c.in-Some.ensures) c.requires.first-low c.requires.second-low
+    c.in-Some.entry.0 c.in-Some.entry.1 (sym c.in-Some.ensures) c.requires.first_low c.requires.second_low
     (omega (arith, length-take c.loop-entry.len c.loop-entry.merged, c.loop-entry.invariant.0, c.if-len-eq-PLACES.true))
 
 pub loop-entry-preserved : goal.loop-entry-preserved
@@ -36,7 +36,7 @@ loop-entry-preserved c =
     let len = c.loop-entry.len in
     let merged = c.loop-entry.merged in
     let room : len < length merged = omega (arith, c.loop-entry.invariant.0, c.loop-entry.invariant.1, c.if-len-eq-PLACES.false) in
-    let more = merging_more (count_of xs) (count_of ys) (in_order_ranged xs c.requires.first-ordered) (in_order_ranged ys c.requires.second-ordered)
+    let more = merging_more (count_of xs) (count_of ys) (in_order_ranged xs c.requires.first_ordered) (in_order_ranged ys c.requires.second_ordered)
     c.loop-entry.a.now c.loop-entry.b.now (take len merged) so_far.0 so_far.1 entry.0 entry.1 (sym c.in-Some.ensures) in (
       length-set merged len entry ∙ c.loop-entry.invariant.0,
       omega arith,
@@ -56,6 +56,6 @@ returns c =
     let ys = c.args.second.now in
     let so_far = c.loop-entry.invariant.2 in (
       c.loop-entry.invariant.1,
-      merging_all (count_of xs) (count_of ys) (in_order_ranged xs c.requires.first-ordered) (in_order_ranged ys c.requires.second-ordered)
-          c.loop-entry.a.now c.loop-entry.b.now (take c.loop-entry.len c.loop-entry.merged) so_far.0 so_far.1 (sym c.in-default.ensures),
+      merging_all (count_of xs) (count_of ys) (in_order_ranged xs c.requires.first_ordered) (in_order_ranged ys c.requires.second_ordered)
+          c.loop-entry.a.now c.loop-entry.b.now (take c.loop-entry.len c.loop-entry.merged) so_far.0 so_far.1 (sym c.in_default.ensures),
     )

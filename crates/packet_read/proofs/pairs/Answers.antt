@@ -13,14 +13,14 @@ pub loop-i-init : goal.loop-i-init
 loop-i-init g c =
     (refl, going_none g.T.Tally.fits (packet c.args.reader.now) c.args.count c.args.reader.now.place (g.T.Tally.counts c.blank-tag.result) c.requires c.blank-tag.ensures)
 
-pub returns-in-err-least : goal.returns-in-err-least
-returns-in-err-least g c =
+pub returns-in_err-least : goal.returns-in_err-least
+returns-in_err-least g c =
     let fits = g.T.Tally.fits in
     let bs = packet c.args.reader.now in
     let here = c.loop-i.reader.place in
     let counts = g.T.Tally.counts c.loop-i.tag in
     let same = ap (λ r. r.now) c.loop-i.invariant.0 in
-    let no-pair = c.in-err-least.ensures in
+    let no-pair = c.in_err-least.ensures in
     let p = err_from_is_err_and c.from-residual.result c.from-residual.ensures.1 in
     rw (p.1, p.2)
     (record {
@@ -37,11 +37,11 @@ loop-i-preserved g c =
     let here = c.loop-i.reader.place in
     let counts = g.T.Tally.counts c.loop-i.tag in
     let same = ap (λ r. r.now) c.loop-i.invariant.0 in
-    let made = c.in-ok-least.ensures in (
+    let made = c.in_ok-least.ensures in (
       made.same ∙ c.loop-i.invariant.0,
       going_more fits bs c.args.count c.loop-i.i here c.loop-i.least counts c.loop-i.invariant.1 c.loop-i-test.true
           (ap (λ b. first_no (pair_questions fits b here c.loop-i.least counts)) (sym same) ∙ sym made.asks)
-          c.one-pair.new.reader.place c.in-ok-least.least (g.T.Tally.counts c.one-pair.new.tag)
+          c.one_pair.new.reader.place c.in_ok-least.least (g.T.Tally.counts c.one_pair.new.tag)
           made.reads.2
           (made.reads.0 ∙ ap (λ b. suc (rank (pair_from b here))) same)
           (made.reads.1 ∙ ap (λ b. with_pair b here counts) same),

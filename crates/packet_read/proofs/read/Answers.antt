@@ -10,56 +10,56 @@ use Rattle.packet.specs.Packing.{packet_bytes}
 use Rattle.packet_read.proofs.Packed.{packs_back}
 use Rattle.packet_read.proofs.read.Goals as goal
 
-pub returns-in-err-place : goal.returns-in-err-place
-returns-in-err-place g c =
+pub returns-in_err-place : goal.returns-in_err-place
+returns-in_err-place g c =
     let kind = g.B.Body.kind in
     let lawful = g.B.Body.lawful in
     let fits = g.T.Tally.fits in
     let bs = c.args.packet.now in
     let p = err_from_is_err_and c.from-residual.result c.from-residual.ensures.1 in
-    rw (p.1, p.2) (record { answers = sym (ap (λ o. answered o (content kind lawful fits bs)) (no_opening kind lawful fits bs _ (sym c.in-err-place.ensures.asks))); packs = tt })
+    rw (p.1, p.2) (record { answers = sym (ap (λ o. answered o (content kind lawful fits bs)) (no_opening kind lawful fits bs _ (sym c.in_err-place.ensures.asks))); packs = tt })
 
-pub returns-in-err-head : goal.returns-in-err-head
-returns-in-err-head g c =
+pub returns-in_err-head : goal.returns-in_err-head
+returns-in_err-head g c =
     let kind = g.B.Body.kind in
     let lawful = g.B.Body.lawful in
     let fits = g.T.Tally.fits in
     let bs = c.args.packet.now in
-    let opens = sym c.in-ok-place.ensures.asks in
-    let p = err_from_is_err_and c.from-residual-in-err-head.result c.from-residual-in-err-head.ensures.1 in
-    rw (p.1, p.2) (record { answers = sym (ap (λ o. answered o (content kind lawful fits bs)) (no_head kind lawful fits bs opens _ (sym c.in-err-head.ensures.asks))); packs = tt })
+    let opens = sym c.in_ok-place.ensures.asks in
+    let p = err_from_is_err_and c.from-residual-in_err-head.result c.from-residual-in_err-head.ensures.1 in
+    rw (p.1, p.2) (record { answers = sym (ap (λ o. answered o (content kind lawful fits bs)) (no_head kind lawful fits bs opens _ (sym c.in_err-head.ensures.asks))); packs = tt })
 
-pub returns-in-err-tag : goal.returns-in-err-tag
-returns-in-err-tag g c =
+pub returns-in_err-tag : goal.returns-in_err-tag
+returns-in_err-tag g c =
     let kind = g.B.Body.kind in
     let lawful = g.B.Body.lawful in
     let fits = g.T.Tally.fits in
     let bs = c.args.packet.now in
-    let opens = sym c.in-ok-place.ensures.asks in
-    let made = c.in-ok-head.ensures in
+    let opens = sym c.in_ok-place.ensures.asks in
+    let made = c.in_ok-head.ensures in
     let same = ap (λ r. r.now) made.same in
-    let no-pair = (λ i. first_no (pairs_questions fits (sym same i) 0 (sym made.reads.1 i))) ∙ sym c.in-err-tag.ensures.asks in
-    let p = err_from_is_err_and c.from-residual-in-err-tag.result c.from-residual-in-err-tag.ensures.1 in
+    let no-pair = (λ i. first_no (pairs_questions fits (sym same i) 0 (sym made.reads.1 i))) ∙ sym c.in_err-tag.ensures.asks in
+    let p = err_from_is_err_and c.from-residual-in_err-tag.result c.from-residual-in_err-tag.ensures.1 in
     rw (p.1, p.2) (record { answers = sym (ap (λ o. answered o (content kind lawful fits bs)) (no_pairs kind lawful fits bs opens (sym made.asks) _ no-pair)); packs = tt })
 
-pub returns-in-err-body : goal.returns-in-err-body
-returns-in-err-body g c =
+pub returns-in_err-body : goal.returns-in_err-body
+returns-in_err-body g c =
     let kind = g.B.Body.kind in
     let lawful = g.B.Body.lawful in
     let fits = g.T.Tally.fits in
     let bs = c.args.packet.now in
-    let opens = sym c.in-ok-place.ensures.asks in
-    let made = c.in-ok-head.ensures in
-    let tagged = c.in-ok-tag.ensures in
+    let opens = sym c.in_ok-place.ensures.asks in
+    let made = c.in_ok-head.ensures in
+    let tagged = c.in_ok-tag.ensures in
     let same = ap (λ r. r.now) made.same in
     let all_pairs = (λ i. first_no (pairs_questions fits (sym same i) 0 (sym made.reads.1 i))) ∙ sym tagged.asks in
-    let no_body = ap (λ b. first_no (body_questions lawful b)) (sym (ap (λ r. r.now) tagged.same ∙ same)) ∙ sym c.in-err-body.ensures.asks in
-    let p = err_from_is_err_and c.from-residual-in-err-body.result c.from-residual-in-err-body.ensures.1 in
+    let no_body = ap (λ b. first_no (body_questions lawful b)) (sym (ap (λ r. r.now) tagged.same ∙ same)) ∙ sym c.in_err-body.ensures.asks in
+    let p = err_from_is_err_and c.from-residual-in_err-body.result c.from-residual-in_err-body.ensures.1 in
     rw (p.1, p.2) (record { answers = sym (ap (λ o. answered o (content kind lawful fits bs)) (from_body kind lawful fits bs opens (sym made.asks) all_pairs ∙ no_body)); packs = tt })
 
 pub unreachable-requires : goal.unreachable-requires
 unreachable-requires g c =
-    let made = c.in-ok-head.ensures in
+    let made = c.in_ok-head.ensures in
     let ranged = ap in_range made.reads.0 ∙ (headed g.B.Body.kind c.args.packet.now (sym made.asks)).ranged in
     let some = c.in-None.ensures ∙ cond-true _ _ _ ranged in
     let z : ◌≡◌ {A = ℕ} 0 1 = cc in
@@ -71,17 +71,17 @@ returns g c =
     let lawful = g.B.Body.lawful in
     let fits = g.T.Tally.fits in
     let bs = c.args.packet.now in
-    let opens = sym c.in-ok-place.ensures.asks in
-    let made = c.in-ok-head.ensures in
-    let tagged = c.in-ok-tag.ensures in
-    let bodied = c.in-ok-body.ensures in
+    let opens = sym c.in_ok-place.ensures.asks in
+    let made = c.in_ok-head.ensures in
+    let tagged = c.in_ok-tag.ensures in
+    let bodied = c.in_ok-body.ensures in
     let same = ap (λ r. r.now) made.same in
     let same_after = ap (λ r. r.now) tagged.same ∙ same in
     let all_pairs = (λ i. first_no (pairs_questions fits (sym same i) 0 (sym made.reads.1 i))) ∙ sym tagged.asks in
     let all-body = ap (λ b. first_no (body_questions lawful b)) (sym same_after) ∙ sym bodied.asks in
     let ranged = ap in_range made.reads.0 ∙ (headed kind bs (sym made.asks)).ranged in
     let accepted = from_body kind lawful fits bs opens (sym made.asks) all_pairs ∙ all-body in
-    let message-is = says g.T.Tally.counts g.B.Body.bytes kind lawful fits bs c.in-Some.message c.in-ok-head.head c.in-ok-tag.tag c.in-ok-body.body
+    let message-is = says g.T.Tally.counts g.B.Body.bytes kind lawful fits bs c.in-Some.message c.in_ok-head.head c.in_ok-tag.tag c.in_ok-body.body
     c.in-Some.ensures ranged made.reads.0
     (tagged.reads.0 ∙ (λ i. counts_in (same i) (made.reads.1 i)))
     (bodied.reads ∙ ap body_in same_after) in

@@ -18,8 +18,8 @@ place-requires g c =
     c.in-Some.pair c.in-Some.count (sym c.in-Some.ensures) in
     omega (arith, l, ap length c.pair_bytes.ensures, c.loop-pair.auto.out)
 
-pub overflow-add-at : goal.overflow-add-at
-overflow-add-at g c =
+pub overflow_add-at : goal.overflow_add-at
+overflow_add-at g c =
     let l = room (g.T.Tally.counts c.args.tag.now) c.loop-pair.from c.loop-pair.at c.args.out.now c.loop-pair.out c.loop-pair.invariant.1 c.requires
     c.in-Some.pair c.in-Some.count (sym c.in-Some.ensures) in
     record { fits = omega arith }
@@ -38,5 +38,5 @@ loop-pair-preserved g c = (
 pub returns : goal.returns
 returns g c =
     let all = written_all (g.T.Tally.counts c.args.tag.now) c.loop-pair.from c.loop-pair.at c.args.out.now c.loop-pair.out c.loop-pair.invariant.1 c.requires
-    (sym c.in-default.ensures) in
+    (sym c.in_default.ensures) in
     record { past = all.0; writes = all.1 }

@@ -4,8 +4,8 @@ use Rattle.tally.specs.Pairs.{inside}
 use Rattle.station.proofs.next_of.Goals as goal
 
 -- a tally's own count is at most 8,191
-pub overflow-add-result : goal.overflow-add-result
-overflow-add-result g c =
+pub overflow_add-result : goal.overflow_add-result
+overflow_add-result g c =
     let few : g.T.Tally.counts c.args.tag.now c.args.pair ≤ 8191 =
     ⊎_elim
     (λ yes-inside. g.met.T.Tally.bounded _ c.args.pair yes-inside (g.met.T.Tally.own c.args.tag.now))

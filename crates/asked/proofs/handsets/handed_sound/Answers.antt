@@ -4,8 +4,8 @@ use Rattle.asked.proofs.handsets.handed_sound.Goals as goal
 pub loop-station-init : goal.loop-station-init
 loop-station-init g c = below_none _
 
-pub returns-then-not-handed-in : goal.returns-then-not-handed-in
-returns-then-not-handed-in g c = below_stop _ _ c.loop-station.station c.loop-station-test.true c.if-not-handed-in.ensures
+pub returns-then-not-handed_in : goal.returns-then-not-handed_in
+returns-then-not-handed_in g c = below_stop _ _ c.loop-station.station c.loop-station-test.true c.if-not-handed_in.ensures
 
 pub loop-station-preserved : goal.loop-station-preserved
-loop-station-preserved g c = below_more _ c.loop-station.station c.if-not-handed-in.ensures c.loop-station.invariant
+loop-station-preserved g c = below_more _ c.loop-station.station c.if-not-handed_in.ensures c.loop-station.invariant

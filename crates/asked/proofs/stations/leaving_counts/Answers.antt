@@ -9,8 +9,8 @@ use Rattle.asked.proofs.stations.leaving_counts.Goals as goal
 pub loop-handset-init : goal.loop-handset-init
 loop-handset-init g c = (refl, λ p l. get_or-replicate 8 p 0 0 l ∙ many_none _)
 
-pub count-leaving-requires : goal.count-leaving-requires
-count-leaving-requires g c =
+pub count_leaving-requires : goal.count_leaving-requires
+count_leaving-requires g c =
     λ p l.
     let held = c.loop-handset.invariant.1 p (omega (arith, c.loop-handset.invariant.0)) in
     let few = many_few (λ j. leaves p (places_of c.args.rows.now j)) c.loop-handset.handset in
@@ -18,10 +18,10 @@ count-leaving-requires g c =
 
 pub loop-handset-preserved : goal.loop-handset-preserved
 loop-handset-preserved g c = (
-  omega (arith, c.count-leaving.auto.counts, c.loop-handset.invariant.0),
+  omega (arith, c.count_leaving.auto.counts, c.loop-handset.invariant.0),
   λ p l.
       let held = c.loop-handset.invariant.1 p l in
-      let counted = c.count-leaving.ensures p (omega (arith, c.loop-handset.invariant.0)) in
-      let more = many_more (λ j. leaves p (places_of c.args.rows.now j)) c.loop-handset.handset _ _ (ap (λ x. bit (leaves p x)) c.place-of.ensures) held in
+      let counted = c.count_leaving.ensures p (omega (arith, c.loop-handset.invariant.0)) in
+      let more = many_more (λ j. leaves p (places_of c.args.rows.now j)) c.loop-handset.handset _ _ (ap (λ x. bit (leaves p x)) c.place_of.ensures) held in
       cc,
 )

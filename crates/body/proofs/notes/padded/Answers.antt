@@ -6,4 +6,4 @@ pub returns : goal.returns
 returns c =
     let n = length c.args.told.now in
     let whole : n - 0 ≡ n = omega arith in
-    ap₂ ◌++◌ c.copy-from-slice.ensures.after (ap (λ k. drop k (replicate 24 0)) whole ∙ drop-replicate n 24 0)
+    ap₂ ◌++◌ c.copy_from_slice.ensures.after (ap (λ k. drop k (replicate 24 0)) whole ∙ drop-replicate n 24 0)

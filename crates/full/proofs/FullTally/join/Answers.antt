@@ -5,11 +5,11 @@ use Rattle.full.specs.Cells.{of_cells}
 use Rattle.full.specs.Counting.{cells_fit, cells_joined}
 use Rattle.full.proofs.FullTally.join.Goals as goal
 
-pub invariant-of-self : goal.invariant-of-self
-invariant-of-self c =
+pub invariant_of-self : goal.invariant_of-self
+invariant_of-self c =
     let t = c.args.self.now in
     let u = c.args.other.now in
-    (c.join-cells.ensures.sized, (λ k h. omega (arith, c.join-cells.ensures.joined k h, t.low k h, u.low k h), tt))
+    (c.join_cells.ensures.sized, (λ k h. omega (arith, c.join_cells.ensures.joined k h, t.low k h, u.low k h), tt))
 
 pub returns : goal.returns
 returns c =
@@ -17,5 +17,5 @@ returns c =
     let u = c.args.other.now in
     record {
       answers = sym (cond-true _ _ _ (bounded_larger 8191 (of_cells t.cells) (of_cells u.cells) (cells_fit t.cells t.low) (cells_fit u.cells u.low)));
-      leaves = cells_joined t.cells u.cells c.join-cells.new.cells c.join-cells.ensures.joined;
+      leaves = cells_joined t.cells u.cells c.join_cells.new.cells c.join_cells.ensures.joined;
     }

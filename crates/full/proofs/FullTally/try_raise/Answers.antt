@@ -6,8 +6,8 @@ use Rattle.full.specs.Cells.{of_cells, full_fits}
 use Rattle.full.specs.Counting.{cells_fit, cells_raised, cells_kept}
 use Rattle.full.proofs.FullTally.try_raise.Goals as goal
 
-pub returns-then-not-in-range : goal.returns-then-not-in-range
-returns-then-not-in-range c =
+pub returns-then-not-in_range : goal.returns-then-not-in_range
+returns-then-not-in_range c =
     let counts = of_cells c.args.self.now.cells in
     let p = c.args.pair in
     record {
@@ -15,7 +15,7 @@ returns-then-not-in-range c =
           (λ outside. sym (and_left _ _ (sym c.in_range.ensures ∙ outside)))
           (λ above. sym (and_right (inside p) _
           (raise_above full_fits (λ d q i e. bounded_at 8191 d e q i) counts p c.args.number (sym c.in_range.ensures ∙ above.0) above.1)))
-          c.then-not-in-range.either;
+          c.then-not-in_range.either;
       leaves = refl;
     }
 
@@ -23,7 +23,7 @@ pub returns-then-self-at : goal.returns-then-self-at
 returns-then-self-at c =
     let t = c.args.self.now in
     let p = c.args.pair in
-    let in_range : inside p ≡ true = sym c.if-not-in-range.ensures in
+    let in_range : inside p ≡ true = sym c.if-not-in_range.ensures in
     record {
       answers = sym (and_from _ _ in_range (bounded_raised 8191 (of_cells t.cells) p c.args.number c.if-number-gt-MOST.false (cells_fit t.cells t.low)));
       leaves = simp c.place-at.ensures (cells_raised t.cells p c.args.number in_range t.sized (simp c.place-at.ensures at c.if-self-at.true));
@@ -33,7 +33,7 @@ pub returns-else-self-at : goal.returns-else-self-at
 returns-else-self-at c =
     let t = c.args.self.now in
     let p = c.args.pair in
-    let in_range : inside p ≡ true = sym c.if-not-in-range.ensures in
+    let in_range : inside p ≡ true = sym c.if-not-in_range.ensures in
     record {
       answers = sym (and_from _ _ in_range (bounded_raised 8191 (of_cells t.cells) p c.args.number c.if-number-gt-MOST.false (cells_fit t.cells t.low)));
       leaves = cells_kept t.cells p c.args.number in_range (simp c.place-at.ensures at c.if-self-at.false);

@@ -8,5 +8,5 @@ use Rattle.house.proofs.moves.leave.Goals as goal
 pub returns : goal.returns
 unfolding register_at
 returns g c =
-    c.set-place.ensures
-    ∙ ap (λ s. with_place (updated s.place c.args.handset (Leaving c.args.keeper c.args.station)) s) c.put-notice.ensures
+    c.set_place.ensures
+    ∙ ap (λ s. with_place (updated s.place c.args.handset (Leaving c.args.keeper c.args.station)) s) c.put_notice.ensures

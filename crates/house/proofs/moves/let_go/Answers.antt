@@ -16,11 +16,11 @@ unfolding release_from
 returns g c =
     let v = view g.T.Tally.counts c.args.tables.now in
     let p = c.args.station in let j = c.args.notice.handset in let n = c.args.notice.station in
-    c.set-carried.ensures
+    c.set_carried.ensures
     ∙ ap (λ s. with_carried (updated s.carried j (g.T.Tally.counts c.args.tally)) s)
-    (c.set-place.ensures
+    (c.set_place.ensures
     ∙ ap (λ s. with_place (updated s.place j (OnWay p n)) s)
-    (c.set-passed.ensures
-    ∙ ap (λ s. with_passed (updated s.passed p (updated (s.passed p) j (Some n))) s) c.take-notice.ensures))
+    (c.set_passed.ensures
+    ∙ ap (λ s. with_passed (updated s.passed p (updated (s.passed p) j (Some n))) s) c.take_notice.ensures))
     ∙ ap₂ (λ l k. with_notices (updated v.notices p l) (with_passed (updated v.passed p (updated (v.passed p) j (Some n)))
     (with_place (updated v.place j (OnWay p n)) (with_carried (updated v.carried j k) v)))) (first_out (v.notices p)) c.requires.counts

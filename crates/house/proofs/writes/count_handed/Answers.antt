@@ -5,5 +5,5 @@ use Rattle.house.proofs.writes.count_handed.Goals as goal
 
 pub returns : goal.returns
 returns g c =
-    ap (λ rows. viewed g.T.Tally.counts (with_handsets g.T.Tally.counts (whole c.args.tables.now) rows)) c.handed-row.ensures.is
-    ∙ handed_view g.T.Tally.counts (whole c.args.tables.now) c.args.handset c.requires.handset c.args.station c.handed-row.ensures.inside
+    ap (λ rows. viewed g.T.Tally.counts (with_handsets g.T.Tally.counts (whole c.args.tables.now) rows)) c.handed_row.ensures.is
+    ∙ handed_view g.T.Tally.counts (whole c.args.tables.now) c.args.handset c.requires.handset c.args.station c.handed_row.ensures.inside

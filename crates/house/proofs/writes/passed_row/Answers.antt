@@ -8,8 +8,8 @@ returns g c =
     let row = c.index-stations-station.result in
     record {
       is =
-          ap (λ p. set c.args.stations.now c.args.station (record { tally = row.tally; notices = row.notices; passed = p })) c.pass-one-passed.ensures.is
+          ap (λ p. set c.args.stations.now c.args.station (record { tally = row.tally; notices = row.notices; passed = p })) c.pass_one-passed.ensures.is
           ∙ set_modify_read c.args.stations.now c.args.station (passing c.args.handset c.args.to) row c.index-stations-station.is;
       inside = subst (λ l. c.args.handset < length l) (column_at (λ x. x.passed) [] c.args.stations.now c.args.station row c.requires.station c.index-stations-station.is)
-          c.pass-one-passed.ensures.inside;
+          c.pass_one-passed.ensures.inside;
     }

@@ -5,5 +5,5 @@ use Rattle.house.proofs.writes.set_stage.Goals as goal
 
 pub returns : goal.returns
 returns g c =
-    ap (λ rows. viewed g.T.Tally.counts (with_roll g.T.Tally.counts (whole c.args.tables.now) rows)) c.stage-row.ensures
+    ap (λ rows. viewed g.T.Tally.counts (with_roll g.T.Tally.counts (whole c.args.tables.now) rows)) c.stage_row.ensures
     ∙ stage_view g.T.Tally.counts (whole c.args.tables.now) c.args.name c.requires c.args.stage

@@ -5,5 +5,5 @@ use Rattle.house.proofs.writes.set_tally.Goals as goal
 
 pub returns : goal.returns
 returns g c =
-    ap (λ rows. viewed g.T.Tally.counts (with_stations g.T.Tally.counts (whole c.args.tables.now) rows)) c.tally-row.ensures
+    ap (λ rows. viewed g.T.Tally.counts (with_stations g.T.Tally.counts (whole c.args.tables.now) rows)) c.tally_row.ensures
     ∙ tally_view g.T.Tally.counts (whole c.args.tables.now) c.args.station c.requires c.args.tally

@@ -3,5 +3,5 @@ use Rattle.tally.proofs.Listing.{none_counted}
 use Rattle.listed.specs.Keeping.{none_low}
 use Rattle.listed.proofs.ListedTally.blank.Goals as goal
 
-pub invariant-of-result : goal.invariant-of-result
-invariant-of-result c = (refl, (omega arith, (sym none_counted, (none_low, tt))))
+pub invariant_of-result : goal.invariant_of-result
+invariant_of-result c = (refl, (omega arith, (sym none_counted, (none_low, tt))))

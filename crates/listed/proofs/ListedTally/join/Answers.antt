@@ -22,21 +22,21 @@ joined t u xs ys merged front behind n is-t is-u within lists written =
     (take n (front ++ behind))
     (take_at front behind n (ap length e ∙ length-take-le n merged within) ∙ e ∙ lists ∙ (λ i. counted_pairs (larger (count_of (is-t i)) (count_of (is-u i)))))
 
-pub invariant-of-self : goal.invariant-of-self
-invariant-of-self c =
+pub invariant_of-self : goal.invariant_of-self
+invariant_of-self c =
     let t = c.args.self.now in
-    let made = c.in-ok-len.ensures in
-    let new = joined t c.args.other.now c.list.result.now c.list-2.result.now c.merge.new.merged c.copy-from-slice.new.self
-    (post_of 0 (c.in-ok-len.len - 0) t.entries) c.in-ok-len.len c.list.ensures c.list-2.ensures
-    (omega (arith, made.0, c.merge.array_long)) made.1 c.copy-from-slice.ensures.after in
-    (same_len_mid 0 (c.in-ok-len.len - 0) t.entries c.copy-from-slice.new.self c.copy-from-slice.ensures.len ∙ t.sized, (made.0, (new.ordered, (new.low, tt))))
+    let made = c.in_ok-len.ensures in
+    let new = joined t c.args.other.now c.list.result.now c.list-2.result.now c.merge.new.merged c.copy_from_slice.new.self
+    (post_of 0 (c.in_ok-len.len - 0) t.entries) c.in_ok-len.len c.list.ensures c.list-2.ensures
+    (omega (arith, made.0, c.merge.array_long)) made.1 c.copy_from_slice.ensures.after in
+    (same_len_mid 0 (c.in_ok-len.len - 0) t.entries c.copy_from_slice.new.self c.copy_from_slice.ensures.len ∙ t.sized, (made.0, (new.ordered, (new.low, tt))))
 
 pub returns : goal.returns
 returns c =
     let t = c.args.self.now in
     let u = c.args.other.now in
-    let made = c.in-ok-len.ensures in
-    let new = joined t u c.list.result.now c.list-2.result.now c.merge.new.merged c.copy-from-slice.new.self
-    (post_of 0 (c.in-ok-len.len - 0) t.entries) c.in-ok-len.len c.list.ensures c.list-2.ensures
-    (omega (arith, made.0, c.merge.array_long)) made.1 c.copy-from-slice.ensures.after in
-    record { answers = sym (cond-true _ _ _ (kept_fits new (omega (arith, made.0, length-take c.in-ok-len.len (c.copy-from-slice.new.self ++ post_of 0 (c.in-ok-len.len - 0) t.entries))))); leaves = new.counts }
+    let made = c.in_ok-len.ensures in
+    let new = joined t u c.list.result.now c.list-2.result.now c.merge.new.merged c.copy_from_slice.new.self
+    (post_of 0 (c.in_ok-len.len - 0) t.entries) c.in_ok-len.len c.list.ensures c.list-2.ensures
+    (omega (arith, made.0, c.merge.array_long)) made.1 c.copy_from_slice.ensures.after in
+    record { answers = sym (cond-true _ _ _ (kept_fits new (omega (arith, made.0, length-take c.in_ok-len.len (c.copy_from_slice.new.self ++ post_of 0 (c.in_ok-len.len - 0) t.entries))))); leaves = new.counts }

@@ -9,33 +9,33 @@ use Rattle.packet_text.proofs.asking.read_hex.Goals as goal
 pub returns-then-digits-ne0 : goal.returns-then-digits-ne0
 returns-then-digits-ne0 c = λ bs bytes e. omega (arith, ap length e, length_hex bs, c.if-digits-ne0.true)
 
-pub returns-in-err-high : goal.returns-in-err-high
-returns-in-err-high c =
+pub returns-in_err-high : goal.returns-in_err-high
+returns-in_err-high c =
     rw c.from-residual.ensures
     (λ bs bytes e.
     let i = c.loop-i.i in
     let inside : i < length bs = omega (arith, ap length e, length_hex bs, c.loop-i-test.true) in
     let small : get_or bs i 0 < 256 = All-get_or (λ b. b < 256) bs i 0 inside bytes in
-    c.in-err-high.ensures (get_or bs i 0 / 16) (omega (arith, small)) (ap (λ l. get_or l (2 * i) 0) e ∙ high_digit bs i inside))
+    c.in_err-high.ensures (get_or bs i 0 / 16) (omega (arith, small)) (ap (λ l. get_or l (2 * i) 0) e ∙ high_digit bs i inside))
 
-pub returns-in-err-low : goal.returns-in-err-low
-returns-in-err-low c =
-    rw c.from-residual-in-err-low.ensures
+pub returns-in_err-low : goal.returns-in_err-low
+returns-in_err-low c =
+    rw c.from-residual-in_err-low.ensures
     (λ bs bytes e.
     let i = c.loop-i.i in
     let inside : i < length bs = omega (arith, ap length e, length_hex bs, c.loop-i-test.true) in
-    c.in-err-low.ensures (get_or bs i 0 % 16) (omega arith) (ap (λ l. get_or l (2 * i + 1) 0) e ∙ low_digit bs i inside))
+    c.in_err-low.ensures (get_or bs i 0 % 16) (omega arith) (ap (λ l. get_or l (2 * i + 1) 0) e ∙ low_digit bs i inside))
 
 pub loop-i-preserved : goal.loop-i-preserved
 loop-i-preserved c =
     let digits = c.args.digits.now in
     let i = c.loop-i.i in
     let bytes = c.loop-i.bytes in
-    let high = c.in-ok-high.high in
-    let low = c.in-ok-low.low in
+    let high = c.in_ok-high.high in
+    let low = c.in_ok-low.low in
     let b = 16 * high + low in
-    let first = c.in-ok-high.ensures in
-    let second = c.in-ok-low.ensures in
+    let first = c.in_ok-high.ensures in
+    let second = c.in_ok-low.ensures in
     let room : i < length bytes = omega (arith, c.loop-i-test.true, c.loop-i.invariant.0, c.requires) in
     let high_is : high ≡ b / 16 = omega (arith, second.0) in
     let low-is : low ≡ b % 16 = omega (arith, second.0) in

@@ -8,8 +8,8 @@ loop-b-preserved c =
     let bytes = c.args.bytes.now in
     let i = c.loop-b.b-index in
     let b = get_or bytes i 0 in
-    let first = c.in-ok-push-ascii.ensures ∙ ap (λ d. string_bytes c.loop-b.out ++ (d ∷ [])) c.hex_digit.ensures in
-    let both = c.in-ok-push-ascii-2.ensures ∙ (λ j. first j ++ (c.hex-digit-in-loop-b.ensures j ∷ [])) in
+    let first = c.in_ok-push_ascii.ensures ∙ ap (λ d. string_bytes c.loop-b.out ++ (d ∷ [])) c.hex_digit.ensures in
+    let both = c.in_ok-push_ascii-2.ensures ∙ (λ j. first j ++ (c.hex_digit-in-loop-b.ensures j ∷ [])) in
     both
     ∙ append_assoc (string_bytes c.loop-b.out) (hex_digit (b / 16) ∷ []) (hex_digit (b % 16) ∷ [])
     ∙ ap (λ s. s ++ byte_text b) c.loop-b.invariant

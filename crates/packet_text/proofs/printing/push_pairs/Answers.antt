@@ -18,10 +18,10 @@ pub loop-pair-preserved : goal.loop-pair-preserved
 loop-pair-preserved g c = (
   (going g c).within,
   printing_more (g.T.Tally.counts c.args.tag.now) c.loop-pair.from (string_bytes c.args.out.now) (string_bytes c.loop-pair.out) c.loop-pair.invariant.1
-      c.in-Some.pair c.in-Some.count c.after-from.result (going g c) (string_bytes c.push-pair.new.out) c.in-ok-push-pair.ensures,
+      c.in-Some.pair c.in-Some.count c.after-from.result (going g c) (string_bytes c.push_pair.new.out) c.in_ok-push_pair.ensures,
 )
 
 pub returns : goal.returns
 returns g c =
     printing_all (g.T.Tally.counts c.args.tag.now) c.loop-pair.from (string_bytes c.args.out.now) (string_bytes c.loop-pair.out) c.loop-pair.invariant.1
-    (sym c.in-default.ensures)
+    (sym c.in_default.ensures)

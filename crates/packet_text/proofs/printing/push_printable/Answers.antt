@@ -5,8 +5,8 @@ use Rattle.body.specs.Printable.{printable}
 use Rattle.packet_text.proofs.Adding.{added}
 use Rattle.packet_text.proofs.printing.push_printable.Goals as goal
 
-pub push-ascii-requires : goal.push-ascii-requires
-push-ascii-requires c =
+pub push_ascii-requires : goal.push_ascii-requires
+push_ascii-requires c =
     let more = at_drop_more printable c.args.bytes.now c.loop-b.b-index 0 c.loop-b-test.true in
     let so_far = c.loop-b.invariant.0 in
     grind (arith, nat_tests)
@@ -19,7 +19,7 @@ loop-b-preserved c =
     let so_far = c.loop-b.invariant.0 in
     let before = string_bytes c.args.out.now in (
       grind (arith, nat_tests),
-      added before (take i bytes) (get_or bytes i 0 ∷ []) c.loop-b.invariant.1 c.in-ok-push-ascii.ensures
+      added before (take i bytes) (get_or bytes i 0 ∷ []) c.loop-b.invariant.1 c.in_ok-push_ascii.ensures
           ∙ ap (λ xs. before ++ xs) (sym (take_more bytes i 0 c.loop-b-test.true)),
     )
 

@@ -6,9 +6,9 @@ use Rattle.tally.proofs.CountedPairs.counted.Goals as goal
 pub loop-pair-init : goal.loop-pair-init
 loop-pair-init g c = (omega arith, omega arith, omega (arith, ap length (all_rest (g.Self.Tally.counts c.args.self.now))))
 
-going : (g : Over) (c : goal.After-after-from g) → Goes (g.Self.Tally.counts c.args.self.now) c.loop-pair.from c.in-Some.pair c.in-Some.-count c.after-from.result
+going : (g : Over) (c : goal.After-after-from g) → Goes (g.Self.Tally.counts c.args.self.now) c.loop-pair.from c.in-Some.pair c.in-Some._count c.after-from.result
 going g c =
-    goes (g.Self.Tally.counts c.args.self.now) c.loop-pair.from c.in-Some.pair c.in-Some.-count c.after-from.result (sym c.in-Some.ensures) c.after-from.ensures
+    goes (g.Self.Tally.counts c.args.self.now) c.loop-pair.from c.in-Some.pair c.in-Some._count c.after-from.result (sym c.in-Some.ensures) c.after-from.ensures
 
 pub loop-pair-smaller : goal.loop-pair-smaller
 loop-pair-smaller g c = omega (arith, (going g c).later, (going g c).within)
@@ -20,4 +20,4 @@ loop-pair-preserved g c =
 
 pub returns : goal.returns
 returns g c =
-    omega (arith, c.loop-pair.invariant.2, ap length (comes_not (g.Self.Tally.counts c.args.self.now) c.loop-pair.from (sym c.in-default.ensures)))
+    omega (arith, c.loop-pair.invariant.2, ap length (comes_not (g.Self.Tally.counts c.args.self.now) c.loop-pair.from (sym c.in_default.ensures)))

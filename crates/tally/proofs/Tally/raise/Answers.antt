@@ -7,21 +7,21 @@ use Rattle.tally.proofs.Building.{below, below_all, Ranged, raised_is, refused, 
 use Rattle.tally.proofs.Tally.raise.Goals as goal
 
 -- the try was refused, so self is as it was; a place is reached at which what is built is refused too
-pub returns-then-not-try-raise : goal.returns-then-not-try-raise
-returns-then-not-try-raise g c =
+pub returns-then-not-try_raise : goal.returns-then-not-try_raise
+returns-then-not-try_raise g c =
     let counts = g.Self.Tally.counts in
     let fits = g.Self.Tally.fits in
-    let t = c.try-raise.new.self in
-    let unchanged = c.if-try-raise.ensures.leaves in
-    let in_range : inside c.args.pair ≡ true = sym c.if-not-in-range.ensures in
+    let t = c.try_raise.new.self in
+    let unchanged = c.if-try_raise.ensures.leaves in
+    let in_range : inside c.args.pair ≡ true = sym c.if-not-in_range.ensures in
     let wanted : Counts = raised (counts t) c.args.pair c.args.number in
     let ranged : Ranged wanted = ranged_raised (counts t) c.args.pair c.args.number in_range (g.met.Self.Tally.outside t) in
-    let count : c.raised-count-wanted.result ≡ wanted c.at-at.result =
-    c.raised-count-wanted.ensures ∙ ap (λ n. raised (λ _. n) c.args.pair c.args.number c.at-at.result) c.count.ensures in
+    let count : c.raised_count-wanted.result ≡ wanted c.at-at.result =
+    c.raised_count-wanted.ensures ∙ ap (λ n. raised (λ _. n) c.args.pair c.args.number c.at-at.result) c.count.ensures in
     record {
       answers = refused wanted ranged c.loop-place.place c.loop-place-test.true (counts c.loop-place.built) c.loop-place.invariant
-          c.at-at.result c.at-at.ensures c.raised-count-wanted.result count tt fits g.met.Self.Tally.lowered
-          (g.met.Self.Tally.own c.loop-place.built) (sym c.if-not-try-raise.ensures.answers)
+          c.at-at.result c.at-at.ensures c.raised_count-wanted.result count tt fits g.met.Self.Tally.lowered
+          (g.met.Self.Tally.own c.loop-place.built) (sym c.if-not-try_raise.ensures.answers)
           ∙ sym (cond-true _ _ _ in_range) ∙ ap (λ z. raising fits (counts z) c.args.pair c.args.number) unchanged;
       leaves = unchanged;
     }
@@ -29,27 +29,27 @@ returns-then-not-try-raise g c =
 pub loop-place-preserved : goal.loop-place-preserved
 loop-place-preserved g c =
     let counts = g.Self.Tally.counts in
-    let t = c.try-raise.new.self in
-    let in_range : inside c.args.pair ≡ true = sym c.if-not-in-range.ensures in
+    let t = c.try_raise.new.self in
+    let in_range : inside c.args.pair ≡ true = sym c.if-not-in_range.ensures in
     let wanted : Counts = raised (counts t) c.args.pair c.args.number in
     let ranged : Ranged wanted = ranged_raised (counts t) c.args.pair c.args.number in_range (g.met.Self.Tally.outside t) in
-    let count : c.raised-count-wanted.result ≡ wanted c.at-at.result =
-    c.raised-count-wanted.ensures ∙ ap (λ n. raised (λ _. n) c.args.pair c.args.number c.at-at.result) c.count.ensures in
-    c.if-not-try-raise.ensures.leaves
+    let count : c.raised_count-wanted.result ≡ wanted c.at-at.result =
+    c.raised_count-wanted.ensures ∙ ap (λ n. raised (λ _. n) c.args.pair c.args.number c.at-at.result) c.count.ensures in
+    c.if-not-try_raise.ensures.leaves
     ∙ raised_is wanted ranged c.loop-place.place c.loop-place-test.true (counts c.loop-place.built) c.loop-place.invariant
-    c.at-at.result c.at-at.ensures c.raised-count-wanted.result count
+    c.at-at.result c.at-at.ensures c.raised_count-wanted.result count
 
 -- were all places built up, the first try would have been granted
 pub unreachable-requires : goal.unreachable-requires
 unreachable-requires g c =
     let counts = g.Self.Tally.counts in
     let fits = g.Self.Tally.fits in
-    let t = c.try-raise.new.self in
-    let in_range : inside c.args.pair ≡ true = sym c.if-not-in-range.ensures in
+    let t = c.try_raise.new.self in
+    let in_range : inside c.args.pair ≡ true = sym c.if-not-in_range.ensures in
     let wanted : Counts = raised (counts t) c.args.pair c.args.number in
     let ranged : Ranged wanted = ranged_raised (counts t) c.args.pair c.args.number in_range (g.met.Self.Tally.outside t) in
     let whole : counts c.loop-place.built ≡ wanted = c.loop-place.invariant ∙ ap (below wanted) (omega arith) ∙ below_all wanted ranged in
-    let unchanged = c.if-try-raise.ensures.leaves in
+    let unchanged = c.if-try_raise.ensures.leaves in
     let fit : fits (raised (counts c.args.self.now) c.args.pair c.args.number) ≡ true =
     ap (λ z. fits (raised (counts z) c.args.pair c.args.number)) (sym unchanged) ∙ ap fits (sym whole) ∙ g.met.Self.Tally.own c.loop-place.built in
-    both_ways _ (sym c.if-try-raise.ensures.answers) (and_from _ _ in_range fit)
+    both_ways _ (sym c.if-try_raise.ensures.answers) (and_from _ _ in_range fit)

@@ -5,8 +5,8 @@ use Rattle.body.specs.Printable.{printable}
 use Rattle.body.proofs.notes.NoteBody.read.Goals as goal
 
 -- the text is the bytes told, and 0 past them
-pub invariant-of-result : goal.invariant-of-result
-invariant-of-result c =
+pub invariant_of-result : goal.invariant_of-result
+invariant_of-result c =
     let told = c.args.told.now in
     let n = length told in
     let zeros = replicate (24 - n) 0 in
@@ -15,7 +15,7 @@ invariant-of-result c =
       (
         omega (arith, c.if-told-gt-MOST.false),
         (
-          ap (λ t. printable (take n t)) is ∙ ap printable (take_at told zeros n refl) ∙ sym c.if-not-all-printable.ensures,
+          ap (λ t. printable (take n t)) is ∙ ap printable (take_at told zeros n refl) ∙ sym c.if-not-all_printable.ensures,
           (ap (drop n) is ∙ drop_at told zeros n refl, tt),
         ),
       ),
@@ -27,4 +27,4 @@ returns c =
     let n = length told in
     let few : n ≤ 24 = omega (arith, c.if-told-gt-MOST.false) in
     ap Some (ap (take n) c.padded.ensures ∙ take_at told (replicate (24 - n) 0) n refl)
-    ∙ sym (cond-true _ _ _ (and_from _ _ (le-leb n 24 few) (sym c.if-not-all-printable.ensures)))
+    ∙ sym (cond-true _ _ _ (and_from _ _ (le-leb n 24 few) (sym c.if-not-all_printable.ensures)))

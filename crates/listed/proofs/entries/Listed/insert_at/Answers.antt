@@ -15,8 +15,8 @@ insert-requires c =
       sized = t.sized;
     }
 
-pub invariant-of-self : goal.invariant-of-self
-invariant-of-self c =
+pub invariant_of-self : goal.invariant_of-self
+invariant_of-self c =
     let new = insert_kept c.args.self.now c.args.pair c.args.at c.args.number c.requires.sought c.requires.low c.requires.absent c.requires.some
     (take (c.args.self.now.len + 1) c.insert.new.entries) c.insert.ensures.holds in
     (c.insert.ensures.sized, (omega arith, (new.ordered, (new.low, tt))))

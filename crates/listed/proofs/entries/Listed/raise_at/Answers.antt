@@ -3,8 +3,8 @@ use Rattle.std.proofs.lemmas.List.{length-set}
 use Rattle.listed.proofs.Raising.{raise_kept}
 use Rattle.listed.proofs.entries.Listed.raise_at.Goals as goal
 
-pub invariant-of-self : goal.invariant-of-self
-invariant-of-self c =
+pub invariant_of-self : goal.invariant_of-self
+invariant_of-self c =
     let t = c.args.self.now in
     let new = raise_kept t c.args.pair c.args.at c.args.number c.requires.sought c.requires.low c.requires.within c.requires.there c.max.result c.max.ensures in
     (length-set t.entries c.args.at _ ∙ t.sized, (t.few, (new.ordered, (new.low, tt))))
