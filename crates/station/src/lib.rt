@@ -43,8 +43,8 @@ impl StationFault {
 
 // Raises a pair's count in a tally of the station's.
 pub fn raise<T: Tally>(tally: &mut T, pair: Pair, number: u16) -> Result<(), StationFault>
-    ensures answers { result ≡ carried (raising fits (counts tally.old) pair number) }
-    ensures leaves { MatchResult result (λ _. counts tally.new ≡ raised (counts tally.old) pair number) (λ _. tally.new ≡ tally.old) }
+    ensures answers { result ≡ carried (raising T.fits (T.counts tally.old) pair number) }
+    ensures leaves { MatchResult result (λ _. T.counts tally.new ≡ raised (T.counts tally.old) pair number) (λ _. tally.new ≡ tally.old) }
 {
     tally.raise(pair, number)?;
     Ok(())
@@ -52,8 +52,8 @@ pub fn raise<T: Tally>(tally: &mut T, pair: Pair, number: u16) -> Result<(), Sta
 
 // Leaves the larger count of a tally of the station's and another at each pair.
 pub fn join<T: Tally>(tally: &mut T, other: &T) -> Result<(), StationFault>
-    ensures answers { result ≡ carried (verdict fits (larger (counts tally.old) (counts other.now)) tt) }
-    ensures leaves { MatchResult result (λ _. counts tally.new ≡ larger (counts tally.old) (counts other.now)) (λ _. tally.new ≡ tally.old) }
+    ensures answers { result ≡ carried (verdict T.fits (larger (T.counts tally.old) (T.counts other.now)) tt) }
+    ensures leaves { MatchResult result (λ _. T.counts tally.new ≡ larger (T.counts tally.old) (T.counts other.now)) (λ _. tally.new ≡ tally.old) }
 {
     tally.join(other)?;
     Ok(())
@@ -61,7 +61,7 @@ pub fn join<T: Tally>(tally: &mut T, other: &T) -> Result<(), StationFault>
 
 // One more than a tag counts of a pair.
 fn next_of<T: Tally>(tag: &T, pair: Pair) -> u16
-    ensures { result ≡ suc (counts tag.now pair) }
+    ensures { result ≡ suc (T.counts tag.now pair) }
 {
     tag.count(pair) + 1
 }
@@ -69,8 +69,8 @@ fn next_of<T: Tally>(tag: &T, pair: Pair) -> u16
 // Takes in a message that is read: joins its tag and counts the message itself, as the next of its pair after those that
 // the tag counts. A refusal leaves the tally as it was.
 pub fn take_in<T: Tally>(tally: &mut T, tag: &T, pair: Pair) -> Result<(), StationFault>
-    ensures answers { result ≡ taking_in fits (counts tally.old) (counts tag.now) pair }
-    ensures leaves { MatchResult result (λ _. counts tally.new ≡ taken_in (counts tally.old) (counts tag.now) pair) (λ _. tally.new ≡ tally.old) }
+    ensures answers { result ≡ taking_in T.fits (T.counts tally.old) (T.counts tag.now) pair }
+    ensures leaves { MatchResult result (λ _. T.counts tally.new ≡ taken_in (T.counts tally.old) (T.counts tag.now) pair) (λ _. tally.new ≡ tally.old) }
 {
     let mut next = *tally;
     join(&mut next, tag)?;

@@ -3,7 +3,7 @@ use Rattle.full.specs.Counting.{cells_blank, blank_low}
 use Rattle.full.proofs.FullTally.blank.Goals as goal
 
 pub invariant_of-result : goal.invariant_of-result
-invariant_of-result c = (refl, (blank_low, tt))
+invariant_of-result c = record { sized = refl; low = blank_low }
 
 pub returns : goal.returns
 returns c = cells_blank

@@ -9,7 +9,7 @@ pub invariant_of-self : goal.invariant_of-self
 invariant_of-self c =
     let t = c.args.self.now in
     let u = c.args.other.now in
-    (c.join_cells.ensures.sized, (λ k h. omega (arith, c.join_cells.ensures.joined k h, t.low k h, u.low k h), tt))
+    record { sized = c.join_cells.ensures.sized; low = λ k h. omega (arith, c.join_cells.ensures.joined k h, t.low k h, u.low k h) }
 
 pub returns : goal.returns
 returns c =

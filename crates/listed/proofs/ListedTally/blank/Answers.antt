@@ -4,4 +4,4 @@ use Rattle.listed.specs.Keeping.{none_low}
 use Rattle.listed.proofs.ListedTally.blank.Goals as goal
 
 pub invariant_of-result : goal.invariant_of-result
-invariant_of-result c = (refl, (omega arith, (sym none_counted, (none_low, tt))))
+invariant_of-result c = record { sized = refl; few = omega arith; ordered = sym none_counted; low = none_low }

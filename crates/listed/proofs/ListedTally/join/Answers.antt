@@ -29,7 +29,12 @@ invariant_of-self c =
     let new = joined t c.args.other.now c.list.result.now c.list-2.result.now c.merge.new.merged c.copy_from_slice.new.self
     (post_of 0 (c.in_ok-len.len - 0) t.entries) c.in_ok-len.len c.list.ensures c.list-2.ensures
     (omega (arith, made.0, c.merge.array_long)) made.1 c.copy_from_slice.ensures.after in
-    (same_len_mid 0 (c.in_ok-len.len - 0) t.entries c.copy_from_slice.new.self c.copy_from_slice.ensures.len ∙ t.sized, (made.0, (new.ordered, (new.low, tt))))
+    record {
+      sized = same_len_mid 0 (c.in_ok-len.len - 0) t.entries c.copy_from_slice.new.self c.copy_from_slice.ensures.len ∙ t.sized;
+      few = made.0;
+      ordered = new.ordered;
+      low = new.low;
+    }
 
 pub returns : goal.returns
 returns c =

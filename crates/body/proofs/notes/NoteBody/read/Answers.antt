@@ -10,16 +10,13 @@ invariant_of-result c =
     let told = c.args.told.now in
     let n = length told in
     let zeros = replicate (24 - n) 0 in
-    let is = c.padded.ensures in (
-      ap length is ∙ length-append told zeros ∙ omega (arith, length-replicate {A = ℕ} (24 - n) 0, c.if-told-gt-MOST.false),
-      (
-        omega (arith, c.if-told-gt-MOST.false),
-        (
-          ap (λ t. printable (take n t)) is ∙ ap printable (take_at told zeros n refl) ∙ sym c.if-not-all_printable.ensures,
-          (ap (drop n) is ∙ drop_at told zeros n refl, tt),
-        ),
-      ),
-    )
+    let is = c.padded.ensures in
+    record {
+      sized = ap length is ∙ length-append told zeros ∙ omega (arith, length-replicate {A = ℕ} (24 - n) 0, c.if-told-gt-MOST.false);
+      few = omega (arith, c.if-told-gt-MOST.false);
+      plain = ap (λ t. printable (take n t)) is ∙ ap printable (take_at told zeros n refl) ∙ sym c.if-not-all_printable.ensures;
+      blank = ap (drop n) is ∙ drop_at told zeros n refl;
+    }
 
 pub returns : goal.returns
 returns c =

@@ -19,7 +19,7 @@ pub invariant_of-self : goal.invariant_of-self
 invariant_of-self c =
     let new = insert_kept c.args.self.now c.args.pair c.args.at c.args.number c.requires.sought c.requires.low c.requires.absent c.requires.some
     (take (c.args.self.now.len + 1) c.insert.new.entries) c.insert.ensures.holds in
-    (c.insert.ensures.sized, (omega arith, (new.ordered, (new.low, tt))))
+    record { sized = c.insert.ensures.sized; few = omega arith; ordered = new.ordered; low = new.low }
 
 pub returns : goal.returns
 returns c =

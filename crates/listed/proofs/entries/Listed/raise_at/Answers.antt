@@ -7,7 +7,7 @@ pub invariant_of-self : goal.invariant_of-self
 invariant_of-self c =
     let t = c.args.self.now in
     let new = raise_kept t c.args.pair c.args.at c.args.number c.requires.sought c.requires.low c.requires.within c.requires.there c.max.result c.max.ensures in
-    (length-set t.entries c.args.at _ ∙ t.sized, (t.few, (new.ordered, (new.low, tt))))
+    record { sized = length-set t.entries c.args.at _ ∙ t.sized; few = t.few; ordered = new.ordered; low = new.low }
 
 pub returns : goal.returns
 returns c =
