@@ -3,7 +3,7 @@
 
 ghost use Rattle.std.specs.Prelude.{◌≡◌, ℕ, if◌then◌else◌, Ok, Err, slice_index};
 ghost use Rattle.queue.specs.declared.QueueFull.{QueueFull as Full};
-ghost use Rattle.book.specs.Ripening.{ripe_for, first_place, tag_of as tag-counts};
+ghost use Rattle.book.specs.Ripening.{ripe_for, first_place, tag_of as tag_counts};
 ghost use Rattle.book.specs.Places.{room_in, put_in, taken, take_in};
 
 use queue::QueueFull;
@@ -28,7 +28,7 @@ pub fn first_ripe<T: Tally, B>(
     handset: u8,
     stations: u8,
 ) -> Option<usize>
-    ensures { result ≡ first_place (λ m. ripe_for stations (λ i. slice_index handed.now i) handset (tag-counts T.Tally.counts roll.now m)) 0 names.now }
+    ensures { result ≡ first_place (λ m. ripe_for stations (λ i. slice_index handed.now i) handset (tag_counts T.Tally.counts roll.now m)) 0 names.now }
 {
     'names: for (at, name) in names.iter().enumerate() {
         let tag = tables::tag_of(roll, *name);

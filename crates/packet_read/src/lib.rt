@@ -99,8 +99,8 @@ impl From<Misfit> for Fault {
 
 // Raises a pair of the packet in the tag; a refusal is carried whole, with the pair's byte place.
 fn raise_at<T: Tally>(tag: &mut T, place: usize, pair: Pair, count: u16) -> Result<(), Misfit>
-    ensures answers { result ≡ placed place (carried (raising fits (counts tag.old) pair count)) }
-    ensures leaves { OnOk result (counts tag.new ≡ raised (counts tag.old) pair count) }
+    ensures answers { result ≡ placed place (carried (raising T.fits (T.counts tag.old) pair count)) }
+    ensures leaves { OnOk result (T.counts tag.new ≡ raised (T.counts tag.old) pair count) }
 {
     match station::raise(tag, pair, count) {
         Ok(()) => Ok(()),
@@ -118,8 +118,8 @@ fn rises_from(least: u16, pair: Pair, count: u16) -> bool
 // The next pair, into the tag; the least place in the order that the one after it may have.
 fn one_pair<T: Tally>(reader: &mut Reader, tag: &mut T, least: u16) -> Result<u16, Fault>
     ensures same { reader.new.packet ≡ reader.old.packet }
-    ensures asks { asked result ≡ first_no (pair_questions fits (packet reader.old) reader.old.place least (counts tag.old)) }
-    ensures reads { IfOk result (λ next. (next ≡ suc (rank (pair_from (packet reader.old) reader.old.place))) × (counts tag.new ≡ with_pair (packet reader.old) reader.old.place (counts tag.old)) × (reader.new.place ≡ reader.old.place + 4)) }
+    ensures asks { asked result ≡ first_no (pair_questions T.fits (packet reader.old) reader.old.place least (T.counts tag.old)) }
+    ensures reads { IfOk result (λ next. (next ≡ suc (rank (pair_from (packet reader.old) reader.old.place))) × (T.counts tag.new ≡ with_pair (packet reader.old) reader.old.place (T.counts tag.old)) × (reader.new.place ≡ reader.old.place + 4)) }
 {
     let place = reader.place;
     let (pair, count) = reader.pair()?;
@@ -134,8 +134,8 @@ fn one_pair<T: Tally>(reader: &mut Reader, tag: &mut T, least: u16) -> Result<u1
 fn pairs<T: Tally>(reader: &mut Reader, count: u16) -> Result<T, Fault>
     requires { reader.old.place ≡ 13 }
     ensures same { reader.new.packet ≡ reader.old.packet }
-    ensures asks { asked result ≡ first_no (pairs_questions fits (packet reader.old) 0 count) }
-    ensures reads { IfOk result (λ tag. (counts tag ≡ counts_in (packet reader.old) count) × (reader.new.place ≡ pair_place count)) }
+    ensures asks { asked result ≡ first_no (pairs_questions T.fits (packet reader.old) 0 count) }
+    ensures reads { IfOk result (λ tag. (T.counts tag ≡ counts_in (packet reader.old) count) × (reader.new.place ≡ pair_place count)) }
 {
     let mut tag = T::blank();
     let mut least = 0;
@@ -148,8 +148,8 @@ fn pairs<T: Tally>(reader: &mut Reader, count: u16) -> Result<T, Fault>
 // The body, up to the packet's end.
 fn body<B: Body>(reader: &mut Reader) -> Result<B, Fault>
     requires { reader.old.place ≡ body_place (packet reader.old) }
-    ensures asks { asked result ≡ first_no (body_questions lawful (packet reader.old)) }
-    ensures reads { IfOk result (λ b. bytes b ≡ body_in (packet reader.old)) }
+    ensures asks { asked result ≡ first_no (body_questions B.lawful (packet reader.old)) }
+    ensures reads { IfOk result (λ b. B.bytes b ≡ body_in (packet reader.old)) }
 {
     let place = reader.place;
     let len = reader.byte()?;

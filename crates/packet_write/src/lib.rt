@@ -84,8 +84,8 @@ fn place_pairs<T: CountedPairs>(out: &mut [u8], tag: &T) -> usize
 
 // Writes the body's length and the body.
 fn place_body<B: Body>(out: &mut [u8], at: usize, body: &B)
-    requires { at + 1 + length (bytes body.now) ≤ length out.old }
-    ensures { out.new ≡ placed at (length (bytes body.now) ∷ bytes body.now) out.old }
+    requires { at + 1 + length (B.bytes body.now) ≤ length out.old }
+    ensures { out.new ≡ placed at (length (B.bytes body.now) ∷ B.bytes body.now) out.old }
 {
     place(out, at, &[body.size()]);
     let _ = body.write(&mut out[at + 1..]);

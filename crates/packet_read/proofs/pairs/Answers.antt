@@ -21,7 +21,7 @@ returns-in_err-least g c =
     let counts = g.T.Tally.counts c.loop-i.tag in
     let same = ap (λ r. r.now) c.loop-i.invariant.0 in
     let no-pair = c.in_err-least.ensures in
-    let p = err_from_is_err_and c.from-residual.result c.from-residual.ensures.1 in
+    let p = err_from_is_err_and c.from_residual.result c.from_residual.ensures.1 in
     rw (p.1, p.2)
     (record {
       same = no-pair.same ∙ c.loop-i.invariant.0;

@@ -16,7 +16,7 @@ returns-in_err-place g c =
     let lawful = g.B.Body.lawful in
     let fits = g.T.Tally.fits in
     let bs = c.args.packet.now in
-    let p = err_from_is_err_and c.from-residual.result c.from-residual.ensures.1 in
+    let p = err_from_is_err_and c.from_residual.result c.from_residual.ensures.1 in
     rw (p.1, p.2) (record { answers = sym (ap (λ o. answered o (content kind lawful fits bs)) (no_opening kind lawful fits bs _ (sym c.in_err-place.ensures.asks))); packs = tt })
 
 pub returns-in_err-head : goal.returns-in_err-head
@@ -26,7 +26,7 @@ returns-in_err-head g c =
     let fits = g.T.Tally.fits in
     let bs = c.args.packet.now in
     let opens = sym c.in_ok-place.ensures.asks in
-    let p = err_from_is_err_and c.from-residual-in_err-head.result c.from-residual-in_err-head.ensures.1 in
+    let p = err_from_is_err_and c.from_residual-in_err-head.result c.from_residual-in_err-head.ensures.1 in
     rw (p.1, p.2) (record { answers = sym (ap (λ o. answered o (content kind lawful fits bs)) (no_head kind lawful fits bs opens _ (sym c.in_err-head.ensures.asks))); packs = tt })
 
 pub returns-in_err-tag : goal.returns-in_err-tag
@@ -39,7 +39,7 @@ returns-in_err-tag g c =
     let made = c.in_ok-head.ensures in
     let same = ap (λ r. r.now) made.same in
     let no-pair = (λ i. first_no (pairs_questions fits (sym same i) 0 (sym made.reads.1 i))) ∙ sym c.in_err-tag.ensures.asks in
-    let p = err_from_is_err_and c.from-residual-in_err-tag.result c.from-residual-in_err-tag.ensures.1 in
+    let p = err_from_is_err_and c.from_residual-in_err-tag.result c.from_residual-in_err-tag.ensures.1 in
     rw (p.1, p.2) (record { answers = sym (ap (λ o. answered o (content kind lawful fits bs)) (no_pairs kind lawful fits bs opens (sym made.asks) _ no-pair)); packs = tt })
 
 pub returns-in_err-body : goal.returns-in_err-body
@@ -54,7 +54,7 @@ returns-in_err-body g c =
     let same = ap (λ r. r.now) made.same in
     let all_pairs = (λ i. first_no (pairs_questions fits (sym same i) 0 (sym made.reads.1 i))) ∙ sym tagged.asks in
     let no_body = ap (λ b. first_no (body_questions lawful b)) (sym (ap (λ r. r.now) tagged.same ∙ same)) ∙ sym c.in_err-body.ensures.asks in
-    let p = err_from_is_err_and c.from-residual-in_err-body.result c.from-residual-in_err-body.ensures.1 in
+    let p = err_from_is_err_and c.from_residual-in_err-body.result c.from_residual-in_err-body.ensures.1 in
     rw (p.1, p.2) (record { answers = sym (ap (λ o. answered o (content kind lawful fits bs)) (from_body kind lawful fits bs opens (sym made.asks) all_pairs ∙ no_body)); packs = tt })
 
 pub unreachable-requires : goal.unreachable-requires
@@ -87,5 +87,5 @@ returns g c =
     (bodied.reads ∙ ap body_in same_after) in
     record {
       answers = ap Ok message-is ∙ sym (ap (λ o. answered o (content kind lawful fits bs)) accepted);
-      packs = ap (packet_bytes kind) message-is ∙ packs_back bs (λ i. (c.type-inv.packet i).fits) kind lawful fits accepted;
+      packs = ap (packet_bytes kind) message-is ∙ packs_back bs (λ i. (c.type_inv.packet i).fits) kind lawful fits accepted;
     }

@@ -15,7 +15,7 @@ pub returns-then-out-length : goal.returns-then-out-length
 returns-then-out-length g c =
     let m : Content = meaning g.T.Tally.counts g.B.Body.bytes c.args.message.now in
     let packet = packet_bytes g.B.Body.kind m in
-    let pairs : c.counted_pairs.result ≡ counted m.counts = c.counted_pairs.ensures ∙ ap (λ t. counted (g.T.Tally.counts t)) c.tag.ensures in
+    let pairs : c.counted-pairs.result ≡ counted m.counts = c.counted-pairs.ensures ∙ ap (λ t. counted (g.T.Tally.counts t)) c.tag.ensures in
     let size : c.size.result ≡ length m.body = c.size.ensures ∙ ap (λ b. length (g.B.Body.bytes b)) c.body.ensures in
     let short : length c.args.out.now < length packet = omega (arith, length_packet g.B.Body.kind m, pairs, size, c.if-out-length.true) in
     record { answers = sym (cond-false _ _ _ (lt-leb _ _ short)); leaves = sym (cond-false _ _ _ (lt-leb _ _ short)); reads_back = tt }
@@ -29,9 +29,9 @@ returns g c =
     let m : Content = meaning counts bytes c.args.message.now in
     let packet = packet_bytes kind m in
     let out = c.args.out.now in
-    let pairs : c.counted_pairs.result ≡ counted m.counts = c.counted_pairs.ensures ∙ ap (λ t. counted (g.T.Tally.counts t)) c.tag.ensures in
+    let pairs : c.counted-pairs.result ≡ counted m.counts = c.counted-pairs.ensures ∙ ap (λ t. counted (g.T.Tally.counts t)) c.tag.ensures in
     let size : c.size.result ≡ length m.body = c.size.ensures ∙ ap (λ b. length (g.B.Body.bytes b)) c.body.ensures in
-    let answer : 14 + 4 * c.counted_pairs.result + c.size.result ≡ length packet = omega (arith, length_packet kind m, pairs, size) in
+    let answer : 14 + 4 * c.counted-pairs.result + c.size.result ≡ length packet = omega (arith, length_packet kind m, pairs, size) in
     let room : length packet ≤ length out = omega (arith, answer, c.if-out-length.false) in
     let head : c.place.new.out ≡ placed 0 (head_bytes kind m.head (counted m.counts)) out =
     c.place.ensures ∙ ap (λ bs. placed 0 bs out) (c.head_bytes.ensures ∙ (λ i. head_bytes (c.kind.ensures i) (c.head.ensures i) (pairs i))) in
@@ -41,7 +41,7 @@ returns g c =
     let with-body : c.place_body.new.out ≡ placed (13 + 4 * counted m.counts) (length m.body ∷ m.body) c.place_pairs-at.new.out =
     c.place_body.ensures ∙ (λ i. placed (after-pairs i) (length (bytes (c.body-2.ensures i)) ∷ bytes (c.body-2.ensures i)) c.place_pairs-at.new.out) in
     let written = with-body ∙ ap (placed (13 + 4 * counted m.counts) (length m.body ∷ m.body)) (with-pairs ∙ ap (placed 13 (pairs_part kind m)) head) ∙ written_in_parts kind m out room in
-    let front : take (14 + 4 * c.counted_pairs.result + c.size.result) c.place_body.new.out ≡ packet =
+    let front : take (14 + 4 * c.counted-pairs.result + c.size.result) c.place_body.new.out ≡ packet =
     (λ i. take (answer i) ((written ∙ cond-true _ _ _ (le-leb _ _ room)) i)) ∙ take_at packet (drop (length packet) out) (length packet) refl in
     let carries : Lawful g.B.Body.lawful g.T.Tally.fits m =
     record {

@@ -11,7 +11,7 @@ returns-then-digits-ne0 c = λ bs bytes e. omega (arith, ap length e, length_hex
 
 pub returns-in_err-high : goal.returns-in_err-high
 returns-in_err-high c =
-    rw c.from-residual.ensures
+    rw c.from_residual.ensures
     (λ bs bytes e.
     let i = c.loop-i.i in
     let inside : i < length bs = omega (arith, ap length e, length_hex bs, c.loop-i-test.true) in
@@ -20,7 +20,7 @@ returns-in_err-high c =
 
 pub returns-in_err-low : goal.returns-in_err-low
 returns-in_err-low c =
-    rw c.from-residual-in_err-low.ensures
+    rw c.from_residual-in_err-low.ensures
     (λ bs bytes e.
     let i = c.loop-i.i in
     let inside : i < length bs = omega (arith, ap length e, length_hex bs, c.loop-i-test.true) in
