@@ -23,27 +23,27 @@ module _ {T B : Type 0} (counts : T → Counts) (h : Tables T B) (a : Asked (vie
   notices_long p = part_length (notice 0 0) p h.head.now.handsets (notice_lengths h.stations.now p) h.notices.now
 
   -- the unread and the back places of every handset
-  pub book_filled : (j : ℕ) → unread_lengths (now h.handsets) j + back_lengths (now h.handsets) j ≤ (now h.head).places
+  pub book_filled : (j : ℕ) → unread_lengths h.handsets.now j + back_lengths h.handsets.now j ≤ h.head.now.places
   book_filled j =
       ⊎_elim
-      (λ (lt : j < length (now h.handsets)).
+      (λ (lt : j < length h.handsets.now).
       let few = book_within_places (view counts h) a.sound j (omega (arith, a.shaped.handsets)) in
       omega (arith, unread_long j, back_long j))
       (λ ge.
-      let no-unread = column_past (λ x. x.unread) 0 (now h.handsets) j ge in
-      let no-back = column_past (λ x. x.back) 0 (now h.handsets) j ge in
+      let no-unread = column_past (λ x. x.unread) 0 h.handsets.now j ge in
+      let no-back = column_past (λ x. x.back) 0 h.handsets.now j ge in
       omega arith)
-      (cases_lt j (length (now h.handsets)))
+      (cases_lt j (length h.handsets.now))
 
   -- the notice places of every station
-  pub notices_filled : (p : ℕ) → notice_lengths (now h.stations) p ≤ (now h.head).handsets
+  pub notices_filled : (p : ℕ) → notice_lengths h.stations.now p ≤ h.head.now.handsets
   notices_filled p =
       ⊎_elim
-      (λ (lt : p < length (now h.stations)).
+      (λ (lt : p < length h.stations.now).
       let few = notices_within_leaving (view counts h) a.sound p (omega (arith, a.shaped.stations)) in
-      omega (arith, notices_long p, many_few (λ j. leaves p (places_of (now h.handsets) j)) (now h.head).handsets))
-      (λ ge. let none = column_past (λ x. x.notices) 0 (now h.stations) p ge in omega arith)
-      (cases_lt p (length (now h.stations)))
+      omega (arith, notices_long p, many_few (λ j. leaves p (places_of h.handsets.now j)) h.head.now.handsets))
+      (λ ge. let none = column_past (λ x. x.notices) 0 h.stations.now p ge in omega arith)
+      (cases_lt p (length h.stations.now))
 
   -- while a station keeps some handset, every station has a free notice place
   pub notices_have_place : (p : ℕ) → p < h.head.now.stations → (j : ℕ) → j < h.head.now.handsets → is_kept (places_of h.handsets.now j) ≡ true →

@@ -16,7 +16,7 @@ use body::{Body, CallCode, Note};
 use full::Full;
 use listed::Listed;
 use packet::{Fault, Head, Message};
-use std::fmt;
+use std::alloc::AllocError;
 use tally::{CountedPairs, Pair};
 
 // A hex digit for a number below 16.
@@ -28,18 +28,15 @@ fn hex_digit(n: u8) -> u8
 }
 
 // A byte that is a character by itself.
-fn push_ascii(out: &mut String, b: u8) -> fmt::Result
+fn push_ascii(out: &mut String, b: u8) -> Result<(), AllocError>
     requires { b < 128 }
     ensures { OnOk result (string_bytes out.new ≡ string_bytes out.old ++ (b ∷ [])) }
 {
-    match out.push(b as char) {
-        Ok(()) => Ok(()),
-        Err(_) => Err(fmt::Error),
-    }
+    out.push(b as char)
 }
 
 // Bytes that are characters by themselves.
-fn push_printable(out: &mut String, bytes: &[u8]) -> fmt::Result
+fn push_printable(out: &mut String, bytes: &[u8]) -> Result<(), AllocError>
     requires { printable bytes.now ≡ true }
     ensures { OnOk result (string_bytes out.new ≡ string_bytes out.old ++ bytes.now) }
 {
@@ -50,7 +47,7 @@ fn push_printable(out: &mut String, bytes: &[u8]) -> fmt::Result
 }
 
 // Bytes as hex digits.
-fn push_hex(out: &mut String, bytes: &[u8]) -> fmt::Result
+fn push_hex(out: &mut String, bytes: &[u8]) -> Result<(), AllocError>
     ensures { OnOk result (string_bytes out.new ≡ string_bytes out.old ++ hex_text bytes.now) }
 {
     for b in bytes {
@@ -60,14 +57,14 @@ fn push_hex(out: &mut String, bytes: &[u8]) -> fmt::Result
     Ok(())
 }
 
-fn push_pair(out: &mut String, pair: Pair, count: u16) -> fmt::Result
+fn push_pair(out: &mut String, pair: Pair, count: u16) -> Result<(), AllocError>
     ensures { OnOk result (string_bytes out.new ≡ string_bytes out.old ++ pair_text (pair, count)) }
 {
     write!(out, " {} {} {}", pair.station, pair.handset, count)
 }
 
 // The counted pairs of a tag.
-fn push_pairs<T: CountedPairs>(out: &mut String, tag: &T) -> fmt::Result
+fn push_pairs<T: CountedPairs>(out: &mut String, tag: &T) -> Result<(), AllocError>
     ensures { OnOk result (string_bytes out.new ≡ string_bytes out.old ++ flat_map pair_text (counted_pairs (T.Tally.counts tag.now))) }
 {
     let mut from = Pair {
@@ -81,7 +78,7 @@ fn push_pairs<T: CountedPairs>(out: &mut String, tag: &T) -> fmt::Result
     Ok(())
 }
 
-fn push_head(out: &mut String, head: Head, pairs: u16) -> fmt::Result
+fn push_head(out: &mut String, head: Head, pairs: u16) -> Result<(), AllocError>
     ensures { OnOk result (string_bytes out.new ≡ string_bytes out.old ++ head_text head pairs) }
 {
     write!(
@@ -96,14 +93,14 @@ pub trait Printed: Body {
     // the text of a body, by its bytes
     ghost text: { List ℕ → List ℕ };
 
-    fn print(&self, out: &mut String) -> fmt::Result
+    fn print(&self, out: &mut String) -> Result<(), AllocError>
         ensures { OnOk result (string_bytes out.new ≡ string_bytes out.old ++ text (Self.Body.bytes self.now)) };
 }
 
 impl Printed for CallCode {
     ghost text = { code_text };
 
-    fn print(&self, out: &mut String) -> fmt::Result {
+    fn print(&self, out: &mut String) -> Result<(), AllocError> {
         let value = self.value;
         write!(out, " code {value}")
     }
@@ -112,14 +109,14 @@ impl Printed for CallCode {
 impl Printed for Note {
     ghost text = { note_text };
 
-    fn print(&self, out: &mut String) -> fmt::Result {
+    fn print(&self, out: &mut String) -> Result<(), AllocError> {
         write!(out, " note \"")?;
         push_printable(out, self.text())?;
         write!(out, "\"")
     }
 }
 
-fn push_fault(out: &mut String, fault: Fault) -> fmt::Result
+fn push_fault(out: &mut String, fault: Fault) -> Result<(), AllocError>
     ensures { OnOk result (string_bytes out.new ≡ string_bytes out.old ++ refused_text (tells fault)) }
 {
     match fault.pair() {
@@ -141,7 +138,7 @@ const LONGEST_PACKET: usize = 1293;
 fn push_message<T: CountedPairs, B: Printed>(
     out: &mut String,
     message: &Message<T, B>,
-) -> fmt::Result
+) -> Result<(), AllocError>
     ensures { OnOk result (string_bytes out.new ≡ string_bytes out.old ++ accepted_text B.Body.kind B.Printed.text (meaning T.Tally.counts B.Body.bytes message.now)) }
 {
     let mut packet = [0; LONGEST_PACKET];
@@ -156,7 +153,10 @@ fn push_message<T: CountedPairs, B: Printed>(
 }
 
 // What is printed of a packet that is read with some kind of tally and of body.
-fn push_packet<T: CountedPairs, B: Printed>(out: &mut String, packet: &[u8]) -> fmt::Result
+fn push_packet<T: CountedPairs, B: Printed>(
+    out: &mut String,
+    packet: &[u8],
+) -> Result<(), AllocError>
     ensures { OnOk result (string_bytes out.new ≡ string_bytes out.old ++ outcome_text B.Body.kind B.Printed.text (reading B.Body.kind B.Body.lawful T.Tally.fits packet.now)) }
 {
     match packet_read::read::<T, B>(packet) {
@@ -171,7 +171,7 @@ pub(crate) fn push_reply(
     tally: TallyKind,
     body: BodyKind,
     packet: &[u8],
-) -> fmt::Result
+) -> Result<(), AllocError>
     ensures { OnOk result (string_bytes out.new ≡ string_bytes out.old ++ reply (record { tally = tally; body = body; packet = packet.now })) }
 {
     match (tally, body) {
