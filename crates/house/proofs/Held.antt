@@ -33,7 +33,7 @@ module _ {X : Type 0} (d : X) (row q : ℕ) (xs ys : List X) (there : row * q + 
 
   pub part_elsewhere : (i k : ℕ) → (i ≡ row → ⊥) → k ≤ q → part d i q k (with_part row q ys xs) ≡ part d i q k xs
   part_elsewhere i k ne h =
-      pad k (drop (i * q) (with_part row q ys xs)) (drop (i * q) xs) (replicate k d) (let l = written_length in simp length-drop (omega arith))
+      part_other d i q k xs (with_part row q ys xs) written_length
       (ap (λ zs. take k (drop (i * q) zs)) mid ∙ ⊎_elim (λ e. absurd (ne e)) (⊎_elim
       (λ lt. below (i * q) k (let s = stride i row q (row * q) lt (le_refl (row * q)) in omega arith))
       (λ gt. above (i * q) k (let s = stride row i q (i * q) gt (le_refl (i * q)) in omega arith)))
