@@ -27,7 +27,7 @@ fn notes(rt: HostRuntime) -> Result<(), Fail> {
     assert_eq!(rt; note.size(), 7);
     let mut out = [0; 9];
     assert!(rt; note.write(&mut out));
-    assert!(rt; &out[..] == b"seen to\0\0");
+    assert!(rt; &out[..] == b"seen to\0\0".as_slice());
     assert!(rt; Note::read(b"").is_some());
     assert!(rt; Note::read(b"abcdefghijklmnopqrstuvwx").is_some());
     assert!(rt; Note::read(b"abcdefghijklmnopqrstuvwxy").is_none());
