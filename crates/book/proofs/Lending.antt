@@ -1,10 +1,9 @@
 -- What a write to the places of one row leaves of the whole table.
-use Rattle.std.proofs.Common.{◌≡◌, ℕ, ◌+◌, ◌-◌, ◌*◌, ◌<◌, ◌≤◌, Bool, true, false, cond, ◌&&◌, ltb, leb, List, ◌++◌, length, take, drop, set, None, Ok, Err, Result, sym, refl, ap, ◌∙◌, subst, ⊎_elim, arith}
+use Rattle.std.proofs.Common.{◌≡◌, ℕ, ◌+◌, ◌-◌, ◌*◌, ◌<◌, ◌≤◌, true, cond, ◌&&◌, ltb, List, ◌++◌, length, take, drop, set, None, Ok, Err, sym, ap, ◌∙◌, ⊎_elim, arith}
 use borrow.Rule.Slice.PartMut.{put_mid, put_same, set_mid_at, Post-is}
 use Rattle.std.specs.List.{slice_get}
 use Rattle.std.proofs.lemmas.List.{length-take-le, length-drop}
-use Rattle.std.proofs.lemmas.Bool.{lt-ltb, le-ltb, le-leb, and_from, cond-true, cond-false, cases_lt}
-use Rattle.queue.specs.declared.QueueFull.{QueueFull}
+use Rattle.std.proofs.lemmas.Bool.{lt-ltb, le-ltb, le-leb, cond-true, cond-false, cases_lt}
 use Rattle.queue.specs.Standing.{putting, standing, without_at, with_front}
 use Rattle.book.specs.Places.{in_table, row_part, room_in, put_in, with_part, taken, take_in}
 

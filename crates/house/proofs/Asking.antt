@@ -1,5 +1,5 @@
 -- What a yes to the questions that every step is put first says of the tables' queues.
-use Rattle.std.proofs.Common.{◌≡◌, arith}
+use Rattle.std.proofs.Common.{arith}
 use Rattle.tally.specs.Counts.{Counts}
 use Rattle.tables.specs.declared.tables.Tables.{Tables}
 use Rattle.tables.specs.View.{view}

@@ -1,5 +1,5 @@
 -- The queues of a table of places after one row's places are written.
-use Rattle.std.proofs.Common.{◌≡◌, ℕ, zero, suc, ◌+◌, ◌-◌, ◌*◌, ◌<◌, ◌≤◌, min, Bool, true, false, cond, ltb, List, [], ◌∷◌, ◌++◌, length, take, drop, set, sym, refl, ap, ◌∙◌, ⊎_elim, le_refl, arith, length-set}
+use Rattle.std.proofs.Common.{◌≡◌, ℕ, zero, suc, ◌+◌, ◌-◌, ◌*◌, ◌<◌, ◌≤◌, ltb, List, [], ◌∷◌, ◌++◌, length, take, drop, set, sym, refl, ap, ◌∙◌, ⊎_elim, le_refl, arith, length-set}
 use borrow.Rule.Slice.PartMut.{put_mid, set_mid_at}
 use Rattle.std.proofs.lemmas.List.{take_all, take-append-le, drop_at, drop-take, drop-drop, take-take, length-take-le, length-take, length-drop, length-append}
 use Rattle.std.proofs.lemmas.Slice.{take-put_mid_below, drop-put_mid}

@@ -1,5 +1,5 @@
 -- What the tables say after one queue of theirs gets one more, or loses one.
-use Rattle.std.proofs.Common.{◌≡◌, ℕ, suc, ◌+◌, ◌-◌, ◌*◌, ◌<◌, ◌≤◌, List, [], ◌∷◌, ◌++◌, length, sym, refl, ap, ◌∙◌, subst, arith}
+use Rattle.std.proofs.Common.{◌≡◌, ℕ, suc, ◌+◌, ◌-◌, ◌*◌, ◌<◌, ◌≤◌, List, [], ◌∷◌, ◌++◌, length, ap, ◌∙◌, arith}
 use Rattle.tally.specs.Counts.{Counts}
 use Rattle.rules.specs.declared.place.Notice.{Notice}
 use Rattle.rules.specs.Functions.{updated}

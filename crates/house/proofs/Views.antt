@@ -1,5 +1,5 @@
 -- What the tables say after one of them is changed: the house with one column changed.
-use Rattle.std.proofs.Common.{◌≡◌, ℕ, suc, ◌+◌, ◌-◌, ◌<◌, ◌≤◌, max, cond, ◌&&◌, eqb, List, [], ◌∷◌, ◌++◌, length, get_or, set, Some, None, Option, sym, refl, ap, ◌∙◌, subst, ⊎_elim, arith}
+use Rattle.std.proofs.Common.{◌≡◌, ℕ, suc, ◌<◌, max, ◌&&◌, eqb, List, [], length, get_or, set, Some, None, Option, sym, refl, ap, ◌∙◌, subst, ⊎_elim, arith}
 use mathlib.Core.Path.{fun_ext}
 use native.Mathlib.Nat.{max-eq_right}
 use Rattle.std.proofs.lemmas.List.{get_or-set_same, get_or-set_other}
@@ -11,11 +11,10 @@ use Rattle.rules.specs.declared.place.Stage.{Stage}
 use Rattle.rules.specs.declared.place.Stage.TheVariants.{Wire}
 use Rattle.rules.specs.declared.place.Notice.{Notice}
 use Rattle.rules.specs.Functions.{updated}
-use Rattle.rules.specs.House.{Row, House}
+use Rattle.rules.specs.House.{Row}
 use Rattle.rules.specs.Sound.{on}
 use Rattle.rules.specs.Steps.{notice}
-use Rattle.rules.specs.Changes.{with_used, with_counts, with_notices, with_passed, with_place, with_handed, with_carried, with_unread, with_back, with_rows, with_stage}
-use Rattle.tables.specs.declared.rows.Head.{Head}
+use Rattle.rules.specs.Changes.{with_counts, with_notices, with_passed, with_place, with_handed, with_carried, with_unread, with_back, with_rows, with_stage}
 use Rattle.tables.specs.declared.rows.StationRow.{StationRow}
 use Rattle.tables.specs.declared.rows.HandsetRow.{HandsetRow}
 use Rattle.tables.specs.declared.rows.RollRow.{RollRow}

@@ -1,12 +1,12 @@
 -- A list in order, with one of its pairs raised or one put in.
-use Rattle.std.proofs.Common.{◌≡◌, ℕ, ◌+◌, ◌<◌, ◌≤◌, max, true, false, List, [], ◌∷◌, ◌++◌, length, get_or, take, drop, set, sym, refl, ap, ◌∙◌, subst, arith}
+use Rattle.std.proofs.Common.{◌≡◌, ℕ, ◌+◌, ◌<◌, ◌≤◌, max, true, false, List, ◌∷◌, ◌++◌, length, get_or, take, drop, set, sym, refl, ap, ◌∙◌, subst, arith}
 use mathlib.Core.Path.{fun_ext}
 use lib.Seq.{take-set-lt}
 use Rattle.std.proofs.lemmas.List.{take-append-drop, set_at, get_or_at, length-take, length-take-le, get_or-take}
 use Rattle.std.proofs.lemmas.List.Edits.{length-insert}
 use Rattle.std.proofs.lemmas.Bool.{both_ways, eqb-true, eq-eqb, not-false, not_from_true, and_right, lt-leb, cond_both}
 use Rattle.tally.specs.declared.pair.Pair.{Pair}
-use Rattle.tally.specs.Pairs.{inside, pairs, same, rank, pair_at}
+use Rattle.tally.specs.Pairs.{inside, same, rank, pair_at}
 use Rattle.tally.specs.Counts.{Counts, raised, counted_pairs, counted, count_of, none_above}
 use Rattle.tally.proofs.Order.{at_rank, rank_below}
 use Rattle.tally.proofs.Bounds.{bounded_raised}

@@ -1,9 +1,8 @@
 -- A list that holds the counted pairs of a table in order.
-use Rattle.std.specs.Prelude.{◌≡◌, ℕ, ◌≤◌, Bool, true, false, List, [], length, refl}
+use Rattle.std.specs.Prelude.{◌≡◌, ℕ, ◌≤◌, true, List, length}
 use Rattle.std.proofs.Common.{sym, ap, ◌∙◌, arith}
 use Rattle.std.proofs.lemmas.Bool.{and_from, le-leb}
 use Rattle.tally.specs.declared.pair.Pair.{Pair}
-use Rattle.tally.specs.Pairs.{inside, pairs}
 use Rattle.tally.specs.Counts.{Counts, none, counted_pairs, count_of, none_above}
 use Rattle.tally.proofs.Bounds.{bounded_from}
 use Rattle.tally.proofs.Building.{Ranged}

@@ -1,5 +1,5 @@
 -- The pairs of a packet, read one after the other.
-use Rattle.std.proofs.Common.{◌≡◌, ℕ, suc, ◌+◌, ◌-◌, ◌<◌, ◌≤◌, Bool, List, [], ◌++◌, Some, None, Option, sym, refl, ap, ◌∙◌, add-one, arith}
+use Rattle.std.proofs.Common.{◌≡◌, ℕ, suc, ◌+◌, ◌-◌, ◌<◌, ◌≤◌, Bool, List, ◌++◌, Some, None, sym, refl, ap, ◌∙◌, add-one, arith}
 use Rattle.tally.specs.Pairs.{rank}
 use Rattle.tally.specs.Counts.{Counts, none}
 use Rattle.questions.specs.Asking.{first_no}

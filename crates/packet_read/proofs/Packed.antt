@@ -1,19 +1,17 @@
 -- An accepted packet packs to the same bytes.
-use Rattle.std.proofs.Common.{◌≡◌, ℕ, zero, suc, ◌+◌, ◌*◌, ◌/◌, ◌%◌, ◌<◌, ◌≤◌, Bool, true, eqb, ltb, leb, List, [], ◌∷◌, ◌++◌, length, take, drop, None, sym, refl, ap, ◌∙◌, subst, ⊎_elim, append_assoc, add_assoc, arith}
+use Rattle.std.proofs.Common.{◌≡◌, ℕ, zero, suc, ◌+◌, ◌/◌, ◌%◌, ◌<◌, ◌≤◌, Bool, true, eqb, leb, List, [], ◌∷◌, ◌++◌, length, drop, None, sym, refl, ap, ◌∙◌, subst, ⊎_elim, append_assoc, add_assoc, arith}
 use Rattle.std.specs.List.{flat_map}
 use Rattle.std.proofs.lemmas.List.{drop_more, flat_map_more, length_push, take_all, length-drop}
 use Rattle.std.proofs.lemmas.Bool.{cond-false, and_parts, cases_lt, leb-true, eqb-true}
 use Rattle.tally.specs.declared.pair.Pair.{Pair}
-use Rattle.tally.specs.Pairs.{inside, pairs, rank, pair_at, same}
+use Rattle.tally.specs.Pairs.{inside, pairs, rank, pair_at}
 use Rattle.tally.specs.Counts.{Counts, counted_pairs, counted}
 use Rattle.tally.proofs.Order.{rank_at, not_same}
 use Rattle.tally.proofs.Listing.{none_counted}
 use Rattle.tally.proofs.Splitting.{raised_last}
-use Rattle.questions.specs.Asking.{Question, first_no}
 use Rattle.questions.proofs.Asked.{AllYes, all_yes, yes_parts}
-use Rattle.packet.specs.Faults.{Told}
 use Rattle.packet.specs.Layout.{byte_at, word_at, pair_from, count_from, pair_place, counts_in, pairs_told, body_place, body_in, packet_end}
-use Rattle.packet.specs.Reading.{opening_questions, head_questions, pair_questions, pairs_questions, body_questions, rises, least, refusal, content}
+use Rattle.packet.specs.Reading.{opening_questions, head_questions, pairs_questions, body_questions, rises, least, refusal, content}
 use Rattle.packet.specs.Packing.{word_bytes, pair_bytes, packet_bytes}
 
 module _ (bs : List ℕ) (bytes : (i : ℕ) → byte_at bs i < 256) where

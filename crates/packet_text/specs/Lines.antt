@@ -5,7 +5,7 @@
 --   Asks       a line of at most 4,096 bytes asks it
 --   reply      what is printed of it
 --   Answers    a line is answered with a text: the reply to what it asks, and "bad" where it asks nothing
-use Rattle.std.specs.Prelude.{◌≡◌, ℕ, ◌<◌, ◌≤◌, Bool, List, [], ◌∷◌, ◌++◌, length, codes}
+use Rattle.std.specs.Prelude.{◌≡◌, ℕ, ◌<◌, ◌≤◌, Bool, List, ◌++◌, length, codes}
 use Rattle.std.specs.List.{AllByRecursion as All}
 use Rattle.full.specs.Cells.{full_fits}
 use Rattle.listed.specs.Entries.{listed_fits}

@@ -7,7 +7,7 @@
 --   accepted_text  an accepted message: its head, the number of its pairs, the pairs, its body, and what it packs to in hex digits
 --   refused_text   a refusal: its number and byte place, and the pair that it names, if any
 --   outcome_text   what is printed of the answer to a packet
-use Rattle.std.specs.Prelude.{ℕ, ◌+◌, ◌*◌, List, [], ◌∷◌, ◌++◌, Some, None, Ok, Err, codes, decimal, Option, Result, slice_index}
+use Rattle.std.specs.Prelude.{ℕ, ◌+◌, ◌*◌, List, ◌∷◌, ◌++◌, Some, None, Ok, Err, codes, decimal, Option, Result, slice_index}
 use Rattle.std.specs.List.{flat_map}
 use Rattle.tally.specs.declared.pair.Pair.{Pair}
 use Rattle.tally.specs.Counts.{counted, counted_pairs}

@@ -1,24 +1,22 @@
 -- A packed message reads back as itself.
-use Rattle.std.proofs.Common.{◌≡◌, ℕ, zero, suc, ◌+◌, ◌*◌, ◌/◌, ◌%◌, ◌<◌, ◌≤◌, Bool, true, not, ◌&&◌, eqb, ltb, leb, List, [], ◌∷◌, ◌++◌, length, get_or, take, drop, Some, None, Ok, Option, sym, refl, ap, ◌∙◌, subst, add-zero, add_assoc, add-one, arith}
+use Rattle.std.proofs.Common.{◌≡◌, ℕ, zero, suc, ◌+◌, ◌*◌, ◌/◌, ◌%◌, ◌<◌, ◌≤◌, Bool, true, not, ◌&&◌, eqb, ltb, leb, List, [], ◌∷◌, ◌++◌, length, get_or, take, drop, None, Ok, sym, refl, ap, ◌∙◌, add-zero, add_assoc, add-one, arith}
 use Rattle.std.specs.List.{flat_map}
-use Rattle.std.proofs.lemmas.List.{drop_more, drop_all, drop-drop, drop_at, get_or-drop, take_all}
+use Rattle.std.proofs.lemmas.List.{drop_more, drop_all, drop-drop, get_or-drop, take_all}
 use Rattle.std.proofs.lemmas.Bool.{and_parts, and_from, le-leb, eq-eqb}
 use Rattle.tally.specs.declared.pair.Pair.{Pair}
-use Rattle.tally.specs.Pairs.{inside, pairs, rank, pair_at}
-use Rattle.tally.specs.Counts.{Counts, none, raised, counted_pairs, counted}
+use Rattle.tally.specs.Pairs.{inside, rank, pair_at}
+use Rattle.tally.specs.Counts.{Counts, raised, counted_pairs, counted}
 use Rattle.tally.proofs.Order.{at_rank, rank_below}
 use Rattle.tally.proofs.Building.{below, below_none, below_skip, below_more, below_whole, below_le, Ranged, Lowers}
 use Rattle.tally.proofs.Listing.{rest, first, all_rest, Comes, comes_from, zeros_from}
-use Rattle.questions.specs.Asking.{Question, first_no, answered}
+use Rattle.questions.specs.Asking.{answered}
 use Rattle.questions.proofs.Asked.{AllYes, no_no, yes_both}
 use Rattle.packet.specs.Heads.{in_range}
 use Rattle.packet.specs.Messages.{Content}
-use Rattle.packet.specs.Faults.{Told}
-use Rattle.packet.specs.Layout.{byte_at, word_at, pair_from, count_from, pair_place, counts_in, pairs_told, body_place, body_in, packet_end, head_in}
+use Rattle.packet.specs.Layout.{byte_at, pair_from, count_from, pair_place, counts_in, pairs_told, body_place, body_in, packet_end, head_in}
 use Rattle.packet.specs.Reading.{opening_questions, head_questions, pair_questions, pairs_questions, body_questions, rises, with_pair, least, refusal, content, reading}
 use Rattle.packet.specs.Packing.{pair_bytes, packet_bytes}
-use Rattle.packet_write.proofs.Packets.{pairs_part, body_part, length_packet}
-use Rattle.packet_write.proofs.Pairing.{length_pairs}
+use Rattle.packet_write.proofs.Packets.{body_part, length_packet}
 
 -- a message that a packet can carry
 pub record Lawful (lawful : List ℕ → Bool) (fits : Counts → Bool) (m : Content) : Type 0 where

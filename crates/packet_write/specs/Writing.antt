@@ -3,7 +3,7 @@
 --   packing     the answer: the packet's length where the buffer has room for it
 --   placed      a buffer with some bytes written over it from a place on
 --   head_bytes  the first thirteen bytes of a packet: up to the number of pairs
-use Rattle.std.specs.Prelude.{ℕ, ◌+◌, cond, List, [], ◌∷◌, ◌++◌, length, take, drop, Ok, Err, Result, nat_le}
+use Rattle.std.specs.Prelude.{ℕ, ◌+◌, cond, List, ◌∷◌, ◌++◌, length, take, drop, Ok, Err, Result, nat_le}
 use Rattle.packet.specs.declared.head.Head.{Head}
 use Rattle.packet.specs.declared.fault.PackFault.{PackFault}
 use Rattle.packet.specs.declared.fault.PackFault.TheVariants.{ShortBuffer}

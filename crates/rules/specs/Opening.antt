@@ -7,7 +7,7 @@
 --   opened           what a granted opening leaves: every count 0, every queue empty, nothing passed on and no row in use;
 --                    the roll's rows stay
 --   opening          the refusal of an opening, or none, and the house that it leaves
-use Rattle.std.specs.Prelude.{ℕ, Bool, not, ◌&&◌, ◌||◌, List, [], ◌∷◌, length, Some, None, Option, ◌==◌, nat_lt, slice_index}
+use Rattle.std.specs.Prelude.{ℕ, Bool, not, ◌&&◌, ◌||◌, List, [], ◌∷◌, length, None, Option, ◌==◌, nat_lt, slice_index}
 use Rattle.tally.specs.Counts.{none}
 use Rattle.questions.specs.Asking.{first_no, or_next}
 use Rattle.rules.specs.declared.place.Place.TheVariants.{Kept}

@@ -8,7 +8,7 @@
 --   send_from, read_at, register_at, release_from, settle_at   what a granted call leaves
 --   grant         the answer of a granted call, and the house that it leaves
 --   step          the answer of any call, and the house that it leaves: a denied call leaves the house as it was
-use Rattle.std.specs.Prelude.{ℕ, zero, suc, ◌+◌, Bool, cond, List, [], ◌∷◌, ◌++◌, length, Some, None, Option}
+use Rattle.std.specs.Prelude.{ℕ, zero, suc, Bool, cond, List, [], ◌∷◌, ◌++◌, length, Some, None, Option}
 use Rattle.tally.specs.Counts.{Counts, none, raised}
 use Rattle.rules.specs.declared.place.Place.TheVariants.{Kept, Leaving, OnWay}
 use Rattle.rules.specs.declared.place.Stage.TheVariants.{Wire, Back, Unread, Read}

@@ -2,7 +2,7 @@
 --
 --   Shaped   what a yes to the questions about the numbers and lengths says
 --   Asked    what a yes to all questions says that every step is put first
-use Rattle.std.specs.Prelude.{◌≡◌, ℕ, ◌*◌, ◌≤◌, true}
+use Rattle.std.specs.Prelude.{◌≡◌, ◌*◌, ◌≤◌, true}
 use Rattle.rules.specs.House.{Sizes, House}
 use Rattle.rules.specs.Sound.{sound}
 

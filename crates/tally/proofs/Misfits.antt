@@ -1,7 +1,6 @@
 -- The first pair up to which a table of counts does not fit.
 use Rattle.std.proofs.Common.{◌≡◌, ℕ, zero, suc, ◌+◌, ◌<◌, ◌≤◌, Bool, true, false, ap, ◌∙◌, ⊎_elim, arith}
 use Rattle.std.proofs.lemmas.Bool.{cond-true, cond-false, cases_lt}
-use Rattle.tally.specs.declared.pair.Pair.{Pair}
 use Rattle.tally.specs.Pairs.{pairs, pair_at}
 use Rattle.tally.specs.Counts.{Counts, up_to}
 use Rattle.tally.specs.Answers.{first_failing, first_misfit}

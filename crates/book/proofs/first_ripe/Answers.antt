@@ -1,4 +1,4 @@
-use Rattle.std.proofs.Common.{◌≡◌, Bool, get_or, sym, ap, ◌∙◌, arith}
+use Rattle.std.proofs.Common.{get_or, sym, ap, ◌∙◌, arith}
 use Rattle.tally.specs.Counts.{Counts}
 use Rattle.book.specs.Ripening.{ripe_for}
 use Rattle.book.proofs.Comparing.{ripe_none, ripe_more, ripe_short, ripe_all, first_more, first_stop, first_done}

@@ -1,8 +1,7 @@
-use Rattle.std.proofs.Common.{◌≡◌, ℕ, suc, sym, refl, ap, ◌∙◌, arith}
+use Rattle.std.proofs.Common.{◌≡◌, suc, sym, refl, ap, ◌∙◌, arith}
 use Rattle.std.proofs.lemmas.Result.{err_from_is_err_and}
 use Rattle.tally.specs.Pairs.{rank}
 use Rattle.questions.specs.Asking.{first_no}
-use Rattle.packet.specs.Faults.{tells}
 use Rattle.packet.specs.Layout.{pair_place, pair_from, counts_in}
 use Rattle.packet.specs.Reading.{pair_questions, with_pair}
 use Rattle.packet_read.specs.Fields.{packet}

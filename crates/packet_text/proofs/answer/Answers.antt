@@ -1,4 +1,4 @@
-use Rattle.std.proofs.Common.{◌≡◌, ◌++◌, take, string_bytes, codes, ap, ◌∙◌}
+use Rattle.std.proofs.Common.{◌++◌, take, string_bytes, codes, ap, ◌∙◌}
 use Rattle.packet_text.specs.Lines.{Asked, reply}
 use Rattle.packet_text.proofs.Lines.{answers_asked, answers_other}
 use Rattle.packet_text.proofs.answer.Goals.{in-Some+in_ok-push_reply-in-Some, in-None+in_ok-write-in-None}

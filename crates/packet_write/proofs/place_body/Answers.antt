@@ -1,4 +1,4 @@
-use Rattle.std.proofs.Common.{◌≡◌, ◌+◌, [], ◌∷◌, length, sym, ap, ◌∙◌, arith}
+use Rattle.std.proofs.Common.{◌≡◌, ◌+◌, [], ◌∷◌, length, ap, ◌∙◌, arith}
 use Rattle.packet_write.specs.Writing.{placed}
 use Rattle.packet_write.proofs.Placing.{placed_more, placed_part, length_placed}
 use Rattle.packet_write.proofs.place_body.Goals as goal

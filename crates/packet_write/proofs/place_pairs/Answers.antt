@@ -1,4 +1,4 @@
-use Rattle.std.proofs.Common.{◌≡◌, ◌+◌, ◌≤◌, length, sym, refl, ap, ◌∙◌, arith}
+use Rattle.std.proofs.Common.{length, sym, refl, ap, ◌∙◌, arith}
 use Rattle.packet_write.specs.Writing.{placed}
 use Rattle.tally.proofs.Listing.{Goes, goes}
 use Rattle.packet_write.proofs.Pairing.{written_none, room, written_more, written_all}

@@ -1,4 +1,4 @@
-use Rattle.std.proofs.Common.{◌≡◌, Some, sym, ap, ◌∙◌, arith}
+use Rattle.std.proofs.Common.{Some, sym, ap, ◌∙◌}
 use Rattle.tally.proofs.Listing.{rest, first, rest_here, rest_zero, rest_past, next_is}
 use Rattle.full.specs.Cells.{of_cells}
 use Rattle.full.specs.Counting.{cell_at}

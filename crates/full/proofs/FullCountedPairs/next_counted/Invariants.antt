@@ -1,6 +1,5 @@
 use Rattle.std.proofs.Common.{◌≡◌}
 use Rattle.tally.proofs.Listing.{rest}
-use Rattle.tally.specs.Pairs.{start}
 use Rattle.full.specs.Cells.{of_cells}
 use Rattle.full.proofs.FullCountedPairs.next_counted.Given as goal
 

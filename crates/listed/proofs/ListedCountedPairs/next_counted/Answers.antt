@@ -1,8 +1,6 @@
-use Rattle.std.proofs.Common.{◌≡◌, length, get_or, drop, Some, sym, refl, ap, ◌∙◌, arith}
+use Rattle.std.proofs.Common.{Some, sym, ap, ◌∙◌, arith}
 use Rattle.std.proofs.lemmas.List.{at_drop_more, at_drop_all, get_or-take, length-take}
-use Rattle.tally.specs.Counts.{count_of, counted_pairs}
-use Rattle.tally.specs.Pairs.{start}
-use Rattle.tally.proofs.Listing.{first, next_is, rest}
+use Rattle.tally.proofs.Listing.{first}
 use Rattle.listed.specs.Entries.{seek, no_entry}
 use Rattle.listed.specs.Listing.{listed}
 use Rattle.listed.specs.Seeking.{first_sought}

@@ -1,10 +1,8 @@
-use Rattle.std.proofs.Common.{◌≡◌, ℕ, ◌≤◌, true, false, length, take, sym, refl, ap, ◌∙◌, ⊎_elim, arith}
-use Rattle.std.proofs.lemmas.List.{length-take}
+use Rattle.std.proofs.Common.{sym, refl, ap, ◌∙◌, ⊎_elim, arith}
 use Rattle.std.proofs.lemmas.Bool.{and_parts, and_from, and_left, and_right}
-use Rattle.tally.specs.Pairs.{inside, rank}
-use Rattle.tally.specs.Counts.{count_of, raised, none_above}
+use Rattle.tally.specs.Pairs.{inside}
+use Rattle.tally.specs.Counts.{count_of, none_above}
 use Rattle.tally.proofs.Bounds.{bounded_at, raise_above}
-use Rattle.listed.specs.declared.entries.Listed.{Listed}
 use Rattle.listed.specs.Entries.{listed_fits, seek}
 use Rattle.listed.specs.Listing.{listed, Sought}
 use Rattle.listed.proofs.Raising.{own_fits, raised_to_none, too_many}

@@ -1,5 +1,5 @@
-use Rattle.std.proofs.Common.{◌≡◌, ◌++◌, sym, ap, ◌∙◌, arith}
-use Rattle.packet_text.specs.Lines.{Asks, tally_word, body_word}
+use Rattle.std.proofs.Common.{◌++◌, ap, ◌∙◌, arith}
+use Rattle.packet_text.specs.Lines.{tally_word, body_word}
 use Rattle.packet_text.proofs.asking.asked.Goals as goal
 
 pub returns : goal.returns

@@ -6,11 +6,10 @@ use Rattle.tally.specs.Counts.{counted_pairs, counted}
 use Rattle.tally.proofs.Listing.{counted_most}
 use Rattle.packet.specs.Messages.{Content, meaning}
 use Rattle.packet.specs.Packing.{packet_bytes}
-use Rattle.packet_write.specs.Writing.{packing}
 use Rattle.packet_write.proofs.Packets.{length_packet}
 use Rattle.packet_text.specs.Hex.{hex_text}
 use Rattle.packet_text.specs.Printing.{head_text, pair_text}
-use Rattle.packet_text.proofs.Adding.{added, made_added}
+use Rattle.packet_text.proofs.Adding.{made_added}
 use Rattle.packet_text.proofs.printing.push_message.Goals as goal
 
 -- the buffer has room for any packet

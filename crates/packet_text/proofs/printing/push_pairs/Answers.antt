@@ -1,4 +1,4 @@
-use Rattle.std.proofs.Common.{string_bytes, sym, refl, ap, arith}
+use Rattle.std.proofs.Common.{string_bytes, sym, refl, arith}
 use Rattle.tally.proofs.Listing.{Goes, goes}
 use Rattle.packet_text.proofs.Pairing.{printing_none, printing_more, printing_all}
 use Rattle.packet_text.proofs.printing.push_pairs.Given.{Over}

@@ -1,5 +1,4 @@
-use Rattle.std.proofs.Common.{◌≡◌, ℕ, ◌-◌, ◌≤◌, List, ◌++◌, string_bytes}
-use Rattle.std.specs.List.{flat_map}
+use Rattle.std.proofs.Common.{◌-◌, ◌≤◌, string_bytes}
 use Rattle.tally.specs.Pairs.{pairs, start}
 use Rattle.packet_text.proofs.Pairing.{Printing}
 use Rattle.packet_text.proofs.printing.push_pairs.Given as goal

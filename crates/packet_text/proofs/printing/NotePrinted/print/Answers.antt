@@ -1,4 +1,4 @@
-use Rattle.std.proofs.Common.{◌≡◌, ◌++◌, string_bytes, codes, ap, ◌∙◌}
+use Rattle.std.proofs.Common.{◌++◌, string_bytes, codes, ap, ◌∙◌}
 use Rattle.body.specs.Notes.{note_bytes}
 use Rattle.packet_text.proofs.Adding.{added, made_added}
 use Rattle.packet_text.proofs.printing.NotePrinted.print.Goals as goal
