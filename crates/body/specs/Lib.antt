@@ -2,4 +2,4 @@ pub mod Bytes
 pub mod Codes
 pub mod Printable
 pub mod Notes
-pub mod Same
+pub mod Laws

@@ -2,7 +2,7 @@
 ghost use Rattle.std.specs.Prelude.{◌≡◌, ℕ, ◌-◌, ◌≤◌, ◌&&◌, ◌++◌, length, replicate, nat_le};
 ghost use Rattle.body.specs.Printable.{printable, note_lawful};
 ghost use Rattle.body.specs.Notes.{note_bytes};
-ghost use Rattle.body.specs.Same.{told_once};
+ghost use Rattle.body.specs.Laws.{told_once};
 ghost use Rattle.std.proofs.Common.{rules, arith};
 
 use crate::Body;

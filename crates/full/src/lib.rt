@@ -4,7 +4,7 @@
 ghost use Rattle.std.specs.Prelude.{◌≡◌, ℕ, ◌<◌, ◌≤◌, max, true, length, slice_index};
 ghost use Rattle.tally.specs.Pairs.{inside, rank};
 ghost use Rattle.full.specs.Cells.{of_cells, full_fits};
-ghost use Rattle.full.specs.Counting.{cells_fit};
+ghost use Rattle.full.specs.Laws.{cells_fit};
 ghost use Rattle.tally.proofs.Bounds.{bounded_lowered, bounded_at, bounded_from};
 ghost use Rattle.std.proofs.Common.{arith, rules};
 

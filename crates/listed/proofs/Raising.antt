@@ -17,8 +17,9 @@ use Rattle.listed.specs.declared.entries.Listed.{Listed}
 use Rattle.listed.specs.Entries.{InOrder, listed_fits, seek, no_entry}
 use Rattle.listed.specs.Listing.{listed, Sought}
 use Rattle.listed.specs.Merging.{heads}
-use Rattle.listed.specs.Keeping.{in_order_ranged, in_order_fits, Kept, kept}
-use Rattle.listed.specs.Seeking.{seek_le, sought, heads_rest}
+use Rattle.listed.specs.Laws.{in_order_ranged, in_order_fits}
+use Rattle.listed.proofs.Keeping.{Kept, kept}
+use Rattle.listed.proofs.Seeking.{seek_le, sought, heads_rest}
 
 -- at is the position at which the pair p is sought in es
 module _ (es : List (Pair × ℕ)) (ordered : InOrder es) (p : Pair) (i : inside p ≡ true) (at : ℕ) (here : at ≡ seek (rank p) es) where

@@ -7,10 +7,9 @@ ghost use Rattle.tally.specs.Answers.{verdict};
 ghost use Rattle.listed.specs.Entries.{InOrder, seek, listed_fits};
 ghost use Rattle.listed.specs.Listing.{listed, Sought};
 ghost use Rattle.listed.specs.Merging.{front_of, merged_front, heads};
-ghost use Rattle.listed.specs.Keeping.{in_order_ranged, in_order_fits};
+ghost use Rattle.listed.specs.Laws.{fits_lowered, in_order_fits, in_order_ranged};
 ghost use Rattle.std.proofs.Common.{arith};
 ghost use Rattle.std.proofs.lemmas.List.{length-take};
-ghost use Rattle.listed.specs.Merges.{fits_lowered};
 ghost use Rattle.std.proofs.lemmas.Bool.{and_parts, and_from, le-leb};
 ghost use Rattle.tally.proofs.Bounds.{bounded_at, bounded_from};
 

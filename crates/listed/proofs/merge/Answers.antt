@@ -2,8 +2,8 @@ use Rattle.std.proofs.Common.{◌+◌, ◌<◌, length, take, sym, ◌∙◌, ar
 use Rattle.std.proofs.lemmas.List.{length-set, length-take, take_more_set}
 use Rattle.tally.specs.Pairs.{rank}
 use Rattle.tally.specs.Counts.{count_of}
-use Rattle.listed.specs.Keeping.{in_order_ranged}
-use Rattle.listed.specs.Merges.{merging_none, merging_more, merging_stops, merging_all}
+use Rattle.listed.specs.Laws.{in_order_ranged}
+use Rattle.listed.proofs.Merges.{merging_none, merging_more, merging_stops, merging_all}
 use Rattle.listed.proofs.merge.Goals as goal
 
 pub loop-entry-init : goal.loop-entry-init

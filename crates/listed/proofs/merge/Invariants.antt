@@ -1,6 +1,6 @@
 use Rattle.std.proofs.Common.{◌≡◌, ℕ, ◌-◌, ◌≤◌, length, take}
 use Rattle.tally.specs.Counts.{count_of}
-use Rattle.listed.specs.Merges.{Merging}
+use Rattle.listed.proofs.Merges.{Merging}
 use Rattle.listed.proofs.merge.Given as goal
 
 -- some place of the order is reached: the lists are left from it on, and merged before it

@@ -1,7 +1,7 @@
 use Rattle.std.proofs.Common.{Some, sym, ap, ◌∙◌}
 use Rattle.tally.proofs.Listing.{rest, first, rest_here, rest_zero, rest_past, next_is}
 use Rattle.full.specs.Cells.{of_cells}
-use Rattle.full.specs.Counting.{cell_at}
+use Rattle.full.proofs.Counting.{cell_at}
 use Rattle.full.proofs.FullCountedPairs.next_counted.Goals as goal
 
 pub returns-then-count-ne0 : goal.returns-then-count-ne0

@@ -1,5 +1,5 @@
 use Rattle.std.proofs.Common.{refl}
-use Rattle.full.specs.Counting.{cells_blank, blank_low}
+use Rattle.full.proofs.Counting.{cells_blank, blank_low}
 use Rattle.full.proofs.FullTally.blank.Goals as goal
 
 pub invariant_of-result : goal.invariant_of-result

@@ -2,7 +2,8 @@ use Rattle.std.proofs.Common.{sym, arith}
 use Rattle.std.proofs.lemmas.Bool.{cond-true}
 use Rattle.tally.proofs.Bounds.{bounded_larger}
 use Rattle.full.specs.Cells.{of_cells}
-use Rattle.full.specs.Counting.{cells_fit, cells_joined}
+use Rattle.full.specs.Laws.{cells_fit}
+use Rattle.full.proofs.Counting.{cells_joined}
 use Rattle.full.proofs.FullTally.join.Goals as goal
 
 pub invariant_of-self : goal.invariant_of-self

@@ -3,7 +3,8 @@ use Rattle.std.proofs.lemmas.Bool.{and_from, and_left, and_right}
 use Rattle.tally.specs.Pairs.{inside}
 use Rattle.tally.proofs.Bounds.{bounded_at, bounded_raised, raise_above}
 use Rattle.full.specs.Cells.{of_cells, full_fits}
-use Rattle.full.specs.Counting.{cells_fit, cells_raised, cells_kept}
+use Rattle.full.specs.Laws.{cells_fit}
+use Rattle.full.proofs.Counting.{cells_raised, cells_kept}
 use Rattle.full.proofs.FullTally.try_raise.Goals as goal
 
 pub returns-then-not-in_range : goal.returns-then-not-in_range

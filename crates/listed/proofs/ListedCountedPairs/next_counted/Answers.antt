@@ -3,7 +3,7 @@ use Rattle.std.proofs.lemmas.List.{at_drop_more, at_drop_all, get_or-take, lengt
 use Rattle.tally.proofs.Listing.{first}
 use Rattle.listed.specs.Entries.{seek, no_entry}
 use Rattle.listed.specs.Listing.{listed}
-use Rattle.listed.specs.Seeking.{first_sought}
+use Rattle.listed.proofs.Seeking.{first_sought}
 use Rattle.listed.proofs.ListedCountedPairs.next_counted.Goals as goal
 
 pub returns-then-at-self : goal.returns-then-at-self

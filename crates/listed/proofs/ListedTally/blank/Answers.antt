@@ -1,6 +1,6 @@
 use Rattle.std.proofs.Common.{sym, refl, arith}
 use Rattle.tally.proofs.Listing.{none_counted}
-use Rattle.listed.specs.Keeping.{none_low}
+use Rattle.listed.proofs.Keeping.{none_low}
 use Rattle.listed.proofs.ListedTally.blank.Goals as goal
 
 pub invariant_of-result : goal.invariant_of-result

@@ -7,7 +7,8 @@ use Rattle.tally.specs.Counts.{larger, count_of, counted_pairs}
 use Rattle.tally.proofs.Bounds.{bounded_larger}
 use Rattle.listed.specs.declared.entries.Listed.{Listed}
 use Rattle.listed.specs.Listing.{listed}
-use Rattle.listed.specs.Keeping.{in_order_ranged, Kept, kept, kept_fits}
+use Rattle.listed.specs.Laws.{in_order_ranged}
+use Rattle.listed.proofs.Keeping.{Kept, kept, kept_fits}
 use Rattle.listed.proofs.ListedTally.join.Goals as goal
 
 -- the merged list of two tallies, written to the front of a list

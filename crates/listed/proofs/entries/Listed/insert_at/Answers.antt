@@ -2,7 +2,7 @@ use Rattle.std.proofs.Common.{◌+◌, take, arith}
 use Rattle.std.proofs.lemmas.List.{length-take}
 use Rattle.tally.specs.Pairs.{rank}
 use Rattle.listed.specs.Listing.{listed}
-use Rattle.listed.specs.Seeking.{seek_le}
+use Rattle.listed.proofs.Seeking.{seek_le}
 use Rattle.listed.proofs.Raising.{insert_kept}
 use Rattle.listed.proofs.entries.Listed.insert_at.Goals as goal
 

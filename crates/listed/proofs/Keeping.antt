@@ -1,24 +1,16 @@
 -- A list that holds the counted pairs of a table in order.
 use Rattle.std.specs.Prelude.{◌≡◌, ℕ, ◌≤◌, true, List, length}
 use Rattle.std.proofs.Common.{sym, ap, ◌∙◌, arith}
-use Rattle.std.proofs.lemmas.Bool.{and_from, le-leb}
 use Rattle.tally.specs.declared.pair.Pair.{Pair}
 use Rattle.tally.specs.Counts.{Counts, none, counted_pairs, count_of, none_above}
 use Rattle.tally.proofs.Bounds.{bounded_from}
 use Rattle.tally.proofs.Building.{Ranged}
-use Rattle.tally.proofs.Splitting.{count_of_counted, counted_ranged}
+use Rattle.tally.proofs.Splitting.{count_of_counted}
 use Rattle.listed.specs.Entries.{InOrder, listed_fits}
+use Rattle.listed.specs.Laws.{in_order_fits}
 
 pub none_low : none_above 8191 none ≡ true
 none_low = bounded_from 8191 none (λ p i. omega arith)
-
--- what a list in order counts lies in range
-pub in_order_ranged : (es : List (Pair × ℕ)) → InOrder es → Ranged (count_of es)
-in_order_ranged es h p o = ap (λ xs. count_of xs p) h ∙ counted_ranged (count_of es) p o
-
--- a list in order of at most 96 counts, none above 8,191, fits
-pub in_order_fits : (es : List (Pair × ℕ)) → InOrder es → none_above 8191 (count_of es) ≡ true → length es ≤ 96 → listed_fits (count_of es) ≡ true
-in_order_fits es h low few = and_from _ _ low (le-leb _ _ (omega (arith, ap length h)))
 
 -- a list that may be a tally's, and counts what the table c does
 pub record Kept (es : List (Pair × ℕ)) (c : Counts) : Type 0 where

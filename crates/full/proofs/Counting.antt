@@ -8,24 +8,18 @@ use Rattle.tally.specs.declared.pair.Pair.{Pair}
 use Rattle.tally.specs.Pairs.{inside, rank, pair_at, same}
 use Rattle.tally.specs.Counts.{Counts, none, raised, larger}
 use Rattle.tally.proofs.Order.{rank_at, inside_at, rank_below, same_is, same_rank, same_self}
-use Rattle.tally.proofs.Bounds.{bounded_from}
-use Rattle.full.specs.Cells.{of_cells, full_fits}
+use Rattle.full.specs.Cells.{of_cells}
+use Rattle.full.specs.Laws.{cell}
 
 -- tables are equal where they are at each pair in range, and out of range
 by_pairs : (c d : Counts) → ((p : Pair) → inside p ≡ true → c p ≡ d p) → ((p : Pair) → inside p ≡ false → c p ≡ d p) → c ≡ d
 by_pairs c d within without = fun_ext (λ p. ⊎_elim (within p) (without p) (cases_Bool (inside p)))
-
-cell : (xs : List ℕ) (p : Pair) → inside p ≡ true → of_cells xs p ≡ slice_index xs (rank p)
-cell xs p i = cond-true _ _ _ i
 
 no_cell : (xs : List ℕ) (p : Pair) → inside p ≡ false → of_cells xs p ≡ 0
 no_cell xs p o = cond-false _ _ _ o
 
 pub cell_at : (xs : List ℕ) (n : ℕ) → n < 256 → of_cells xs (pair_at n) ≡ slice_index xs n
 cell_at xs n h = cell xs (pair_at n) (inside_at n) ∙ ap (λ k. slice_index xs k) (rank_at n h)
-
-pub cells_fit : (xs : List ℕ) → ((k : ℕ) → k < 256 → slice_index xs k ≤ 8191) → full_fits (of_cells xs) ≡ true
-cells_fit xs low = bounded_from 8191 (of_cells xs) (λ p i. omega (arith, cell xs p i, low (rank p) (rank_below p i)))
 
 pub cells_blank : of_cells (replicate 256 0) ≡ none
 cells_blank =

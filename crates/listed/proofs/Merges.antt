@@ -2,24 +2,20 @@
 use Rattle.std.specs.Prelude.{◌≡◌, ℕ, ◌+◌, ◌<◌, ◌≤◌, max, true, cond, List, [], ◌∷◌, ◌++◌, length, drop, Some, None, ◌≢◌}
 use Rattle.std.proofs.Common.{sym, ap, ap₂, ◌∙◌, ⊎_elim, arith}
 use Rattle.std.proofs.lemmas.List.{length_push}
-use Rattle.std.proofs.lemmas.Bool.{cond-true, cond-false, cases_eq, cases_order, lt-ltb, le-ltb, eq-eqb, ne_eqb, and_parts, and_from, and_right, leb-true, le-leb, lt-leb, not_from_true, not_from_false}
+use Rattle.std.proofs.lemmas.Bool.{cond-true, cond-false, cases_eq, cases_order, lt-ltb, le-ltb, eq-eqb, ne_eqb, and_from, and_right, le-leb, lt-leb, not_from_true, not_from_false}
 use Rattle.tally.specs.declared.pair.Pair.{Pair}
 use Rattle.tally.specs.Pairs.{inside, rank, pair_at}
 use Rattle.tally.specs.Counts.{Counts, raised, larger, counted_pairs, counted, none_above}
 use Rattle.tally.specs.Answers.{refuses, verdict}
 use Rattle.tally.proofs.Order.{at_rank, rank_at, rank_below, same_rank}
 use Rattle.tally.proofs.Bounds.{bounded_lowered, bounded_larger}
-use Rattle.tally.proofs.Building.{below, below_le, below_more, below_none, below_skip, below_whole, Ranged, Lowers, stopped}
-use Rattle.tally.proofs.Listing.{none_counted, all_rest, rest, first, Comes, rest_here, rest_zero, rest_skip, first_none, comes_from, zeros_from, counted_lowered}
+use Rattle.tally.proofs.Building.{below, below_le, below_more, below_none, below_skip, below_whole, Ranged, stopped}
+use Rattle.tally.proofs.Listing.{none_counted, all_rest, rest, first, Comes, rest_here, rest_zero, rest_skip, first_none, comes_from, zeros_from}
 use Rattle.tally.proofs.Splitting.{rest_same, raised_last}
 use Rattle.listed.specs.Entries.{listed_fits}
+use Rattle.listed.specs.Laws.{fits_lowered}
 use Rattle.listed.specs.Merging.{merged_front, heads}
-use Rattle.listed.specs.Seeking.{heads_rest}
-
-pub fits_lowered : Lowers listed_fits
-fits_lowered c d less h =
-    let fit = and_parts (none_above 8191 c) _ h in
-    and_from _ _ (bounded_lowered 8191 c d less fit.0) (le-leb _ _ (omega (arith, leb-true _ _ fit.1, counted_lowered c d less)))
+use Rattle.listed.proofs.Seeking.{heads_rest}
 
 -- the first counted pair from m on
 first_at : (c : Counts) (m : ℕ) (q : Pair) → inside q ≡ true → m ≤ rank q → ((i : ℕ) → m ≤ i → i < rank q → c (pair_at i) ≡ 0) → (c q ≢ 0)

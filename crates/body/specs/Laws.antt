@@ -1,4 +1,4 @@
--- Notes that tell the same bytes are one.
+-- The proof of a law of notes, cited where notes are said to be bodies: notes that tell the same bytes are one.
 use Rattle.std.specs.Prelude.{◌≡◌, ◌-◌, ◌++◌, length, drop, replicate}
 use Rattle.std.proofs.Common.{sym, ◌∙◌, ap, ap₂, arith}
 use mathlib.Core.HLevel.{is_prop→PathP}
