@@ -5,7 +5,8 @@ ghost use Rattle.std.specs.Prelude.{◌≡◌, suc, MatchResult};
 ghost use Rattle.tally.specs.Counts.{raised, larger};
 ghost use Rattle.tally.specs.Answers.{verdict, raising};
 ghost use Rattle.station.specs.declared.fault.StationFault.TheVariants.{Counts};
-ghost use Rattle.station.specs.Faults.{fault_number, fault_pair, carried, taken_in, taking_in};
+ghost use Rattle.station.specs.Faults.{fault_number, fault_pair, carried};
+ghost use Rattle.station.specs.Taking.{taken_in, taking_in};
 
 use tally::{Pair, Refusal, Tally};
 
