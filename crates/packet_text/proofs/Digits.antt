@@ -1,6 +1,6 @@
 -- Hex digits, by place.
 use Rattle.std.proofs.Common.{◌≡◌, ℕ, zero, suc, ◌+◌, ◌*◌, ◌/◌, ◌%◌, ◌<◌, List, [], ◌∷◌, length, get_or, drop, refl, ap, ◌∙◌, arith}
-use Rattle.std.specs.List.{AllByRecursion as All}
+use Rattle.std.specs.List.{AllByRecursion}
 use Rattle.packet_text.specs.Hex.{hex_digit, hex_text}
 
 pub length_hex : (bs : List ℕ) → length (hex_text bs) ≡ 2 * length bs
@@ -21,7 +21,7 @@ digit_one : (m n : ℕ) → m < 16 → n < 16 → hex_digit m ≡ hex_digit n �
 digit_one m n a b e = grind arith
 
 -- different bytes have different digits
-pub hex_one : (bs cs : List ℕ) → All (λ b. b < 256) bs → All (λ b. b < 256) cs → hex_text bs ≡ hex_text cs → bs ≡ cs
+pub hex_one : (bs cs : List ℕ) → AllByRecursion (λ b. b < 256) bs → AllByRecursion (λ b. b < 256) cs → hex_text bs ≡ hex_text cs → bs ≡ cs
 hex_one [] [] p q e = refl
 hex_one [] (c ∷ cs) p q e = absurd (omega (arith, ap length e))
 hex_one (b ∷ bs) [] p q e = absurd (omega (arith, ap length e))

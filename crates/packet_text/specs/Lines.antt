@@ -6,7 +6,7 @@
 --   reply      what is printed of it
 --   Answers    a line is answered with a text: the reply to what it asks, and "bad" where it asks nothing
 use Rattle.std.specs.Prelude.{◌≡◌, ℕ, ◌<◌, ◌≤◌, Bool, List, ◌++◌, length, codes}
-use Rattle.std.specs.List.{AllByRecursion as All}
+use Rattle.std.specs.List.{AllByRecursion}
 use Rattle.full.specs.Cells.{full_fits}
 use Rattle.listed.specs.Entries.{listed_fits}
 use Rattle.body.specs.Codes.{code_lawful}
@@ -38,7 +38,7 @@ line_text a = tally_word a.tally ++ (body_word a.body ++ hex_text a.packet)
 
 pub record Asks (line : List ℕ) (a : Asked) : Type 0 where
   pub is : line ≡ line_text a
-  pub bytes : All (λ b. b < 256) a.packet
+  pub bytes : AllByRecursion (λ b. b < 256) a.packet
   pub short : length line ≤ 4096
 
 abbrev pub fits_of : TallyKind → Counts → Bool

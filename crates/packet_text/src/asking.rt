@@ -1,6 +1,6 @@
 // What a line asks.
 ghost use Rattle.std.specs.Prelude.{◌≡◌, ℕ, ◌*◌, ◌<◌, ◌≤◌, List, ◌++◌, length, take, MatchOption, ◌≢◌};
-ghost use Rattle.std.specs.List.{AllByRecursion as All};
+ghost use Rattle.std.specs.List.{AllByRecursion};
 ghost use Rattle.packet_text.specs.Hex.{hex_digit, hex_text};
 ghost use Rattle.packet_text.specs.Lines.{Asked, Asks, tally_word, body_word};
 
@@ -51,7 +51,7 @@ fn hex_value(digit: u8) -> Option<u8>
 // Writes the bytes for which hex digits stand to the front of a buffer, and says how many they are.
 fn read_hex(digits: &[u8], bytes: &mut [u8]) -> Option<usize>
     requires { length digits.now ≤ 2 * length bytes.old }
-    ensures { MatchOption result ((bs : List ℕ) → All (λ b. b < 256) bs → digits.now ≢ hex_text bs) (λ n. (n ≤ length bytes.old) × (digits.now ≡ hex_text (take n bytes.new)) × All (λ b. b < 256) (take n bytes.new)) }
+    ensures { MatchOption result ((bs : List ℕ) → AllByRecursion (λ b. b < 256) bs → digits.now ≢ hex_text bs) (λ n. (n ≤ length bytes.old) × (digits.now ≡ hex_text (take n bytes.new)) × AllByRecursion (λ b. b < 256) (take n bytes.new)) }
 {
     if digits.len() % 2 != 0 {
         return None;

@@ -1,5 +1,5 @@
 use Rattle.std.proofs.Common.{◌≡◌, ◌+◌, ◌*◌, ◌/◌, ◌%◌, ◌<◌, [], ◌∷◌, ◌++◌, length, get_or, take, sym, ap, ◌∙◌, subst, append_assoc, arith}
-use Rattle.std.specs.List.{AllByRecursion as All}
+use Rattle.std.specs.List.{AllByRecursion}
 use Rattle.std.proofs.ByRecursion.{All-get_or, All-push}
 use Rattle.std.proofs.lemmas.List.{length-set, take_more, take_more_set, take_all, flat_map_more}
 use Rattle.packet_text.specs.Hex.{hex_digit, byte_text, hex_text}
@@ -50,7 +50,7 @@ loop-i-preserved c =
           ∙ (λ j. c.loop-i.invariant.1 j ++ ((first.1 ∙ ap hex_digit high_is) j ∷ (second.1 ∙ ap hex_digit low-is) j ∷ []))
           ∙ flat_map_more byte_text [] (take i bytes) b
           ∙ ap hex_text (sym (take_more_set bytes i b room)),
-      subst (All (λ b. b < 256)) (sym (take_more_set bytes i b room)) (All-push (λ b. b < 256) (take i bytes) b c.loop-i.invariant.2 (omega (arith, first.0, second.0))),
+      subst (AllByRecursion (λ b. b < 256)) (sym (take_more_set bytes i b room)) (All-push (λ b. b < 256) (take i bytes) b c.loop-i.invariant.2 (omega (arith, first.0, second.0))),
     )
 
 pub returns : goal.returns
@@ -59,5 +59,5 @@ returns c =
     let end : c.loop-i.i ≡ length digits / 2 = omega (arith, c.loop-i-test.false, c.loop-i.auto.i-end) in (
       omega (arith, c.requires),
       sym (take_all (2 * c.loop-i.i) digits (omega (arith, end, c.if-digits-ne0.false))) ∙ c.loop-i.invariant.1 ∙ ap (λ n. hex_text (take n c.loop-i.bytes)) end,
-      subst (λ n. All (λ b. b < 256) (take n c.loop-i.bytes)) end c.loop-i.invariant.2,
+      subst (λ n. AllByRecursion (λ b. b < 256) (take n c.loop-i.bytes)) end c.loop-i.invariant.2,
     )
