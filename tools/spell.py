@@ -3,9 +3,10 @@
 
 usage: python3 tools/spell.py [--list]      at the top of the repository, once, after the kit's port.py
 
-A name that is defined in crates/*/specs or crates/*/proofs, and that has a dash, gets underscores in its place, or, if it
-begins with a capital letter, no dash and a capital for each word. It is turned wherever it stands as a whole word in .rt
-and .antt files, head comments too. Names of goals, which the toolchain makes, and names of the library stay.
+A name that is defined in crates/*/specs or crates/*/proofs, or bound inside a proof there, and that has a dash, gets
+underscores in its place, or, if it begins with a capital letter, no dash and a capital for each word. It is turned wherever
+it stands as a whole word in .rt and .antt files, head comments too, but not behind a dot, where a name is a step's. Names
+of goals, which the toolchain makes, and names of the library stay.
 --list prints what would be turned, and names that would fall together, and writes nothing.
 """
 import glob
@@ -13,10 +14,11 @@ import re
 import sys
 
 WORD = r"[^\s(){}\[\].,;:«»`⟦⟧@\"]+"
-DEFINED = re.compile(r"^\s*(?:(?:abbrev|unfoldable|pub|data|record)\s+)*(" + WORD + r")\s*:(?![=:])")
+DEFINED = re.compile(r"^\s*(?:(?:abbrev|unfoldable|pub|data|record)\s+)*(" + WORD + r")(?:\s+[({].*[)}])?\s*:(?![=:])")
 GOAL = re.compile(r"^\s*(?:(?:abbrev|pub)\s+)*(" + WORD + r")\s*:\s*(?:goal|need|given)\.")
 LET = re.compile(r"\blet (" + WORD + r")\s*(?=[:=])")
-PARAM = re.compile(r"[({](" + WORD + r")(?: " + WORD + r")*\s*:\s")
+PARAMS = re.compile(r"[({]((?:" + WORD + r" )+): ")
+HEAD = re.compile(r"^\s*(" + WORD + r")((?: " + WORD + r")+) =(?: |$)")
 
 
 def files():
@@ -52,15 +54,20 @@ def main(argv):
             if d and not line.lstrip().startswith("--"):
                 defined.setdefault(d.group(1), set()).add(p)
             local |= {m.group(1) for m in LET.finditer(line)}
-    names = {n: turned(n) for n in defined if "-" in n and n not in goals and n not in imported and not re.fullmatch(r"-+", n)}
+            local |= {n for m in PARAMS.finditer(line) for n in m.group(1).split()}
+            head = HEAD.match(line)
+            if head and head.group(1) != "let":
+                local |= set(head.group(2).split())
+    known = set(defined) | local
+    names = {n: turned(n) for n in known if re.search(r"\w-\w", n) and n not in goals and n not in imported}
     for n in sorted(names):
-        if names[n] in defined or names[n] in local or names[n] in imported:
+        if names[n] in known or names[n] in imported:
             print(f"falls together: {n} and {names[n]}")
     if "--list" in argv:
         print("\n".join(f"{n} -> {names[n]}" for n in sorted(names)))
         print("left, of goals:", " ".join(sorted(n for n in defined if "-" in n and n not in names)))
         return
-    word = re.compile(r"(?<![^\s(){}\[\].,;:«»`⟦⟧@\"])(" + WORD + r")")
+    word = re.compile(r"(?<![^\s(){}\[\],;:«»`⟦⟧@\"])(" + WORD + r")")
     for p, text in texts.items():
         new = word.sub(lambda m: names.get(m.group(1), m.group(1)), text)
         if new != text:

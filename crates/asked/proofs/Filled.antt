@@ -30,8 +30,8 @@ module _ {T B : Type 0} (counts : T → Counts) (h : Tables T B) (a : Asked (vie
       let few = book_within_places (view counts h) a.sound j (omega (arith, a.shaped.handsets)) in
       omega (arith, unread_long j, back_long j))
       (λ ge.
-      let no-unread = column_past (λ x. x.unread) 0 h.handsets.now j ge in
-      let no-back = column_past (λ x. x.back) 0 h.handsets.now j ge in
+      let no_unread = column_past (λ x. x.unread) 0 h.handsets.now j ge in
+      let no_back = column_past (λ x. x.back) 0 h.handsets.now j ge in
       omega arith)
       (cases_lt j (length h.handsets.now))
 

@@ -3,7 +3,7 @@ ghost use Rattle.std.specs.Prelude.{◌≡◌, ℕ, ◌-◌, ◌≤◌, ◌&&◌
 ghost use Rattle.body.specs.Printable.{printable, note_lawful};
 ghost use Rattle.body.specs.Notes.{note_bytes};
 ghost use Rattle.body.specs.Laws.{told_once};
-ghost use Rattle.std.proofs.Common.{rules, arith};
+ghost use Rattle.std.proofs.Common.{rules};
 
 use crate::Body;
 use crate::note::Note;
@@ -59,11 +59,11 @@ impl Body for Note {
 
     ghost lawful = { note_lawful };
 
-    ghost ranged = { first_of (Prim.search rules, Prim.grind (arith, Self.row.coded.inj)) };
+    ghost ranged = { Prim.search rules };
 
-    ghost short = { first_of (Prim.search rules, Prim.grind (arith, Self.row.coded.inj)) };
+    ghost short = { Prim.search rules };
 
-    ghost own = { first_of (Prim.search rules, Prim.grind (arith, Self.row.coded.inj)) };
+    ghost own = { Prim.search rules };
 
     ghost one = { told_once };
 

@@ -9,14 +9,11 @@ use Rattle.tally.specs.Pairs.{inside, rank, pair_at, same}
 use Rattle.tally.specs.Counts.{Counts, none, raised, larger}
 use Rattle.tally.proofs.Order.{rank_at, inside_at, rank_below, same_is, same_rank, same_self}
 use Rattle.full.specs.Cells.{of_cells}
-use Rattle.full.specs.Laws.{cell}
+use Rattle.full.specs.Laws.{cell, no_cell}
 
 -- tables are equal where they are at each pair in range, and out of range
 by_pairs : (c d : Counts) → ((p : Pair) → inside p ≡ true → c p ≡ d p) → ((p : Pair) → inside p ≡ false → c p ≡ d p) → c ≡ d
 by_pairs c d within without = fun_ext (λ p. ⊎_elim (within p) (without p) (cases_Bool (inside p)))
-
-no_cell : (xs : List ℕ) (p : Pair) → inside p ≡ false → of_cells xs p ≡ 0
-no_cell xs p o = cond-false _ _ _ o
 
 pub cell_at : (xs : List ℕ) (n : ℕ) → n < 256 → of_cells xs (pair_at n) ≡ slice_index xs n
 cell_at xs n h = cell xs (pair_at n) (inside_at n) ∙ ap (λ k. slice_index xs k) (rank_at n h)

@@ -4,9 +4,8 @@
 ghost use Rattle.std.specs.Prelude.{◌≡◌, ℕ, ◌<◌, ◌≤◌, max, true, length, slice_index};
 ghost use Rattle.tally.specs.Pairs.{inside, rank};
 ghost use Rattle.full.specs.Cells.{of_cells, full_fits};
-ghost use Rattle.full.specs.Laws.{cells_fit};
+ghost use Rattle.full.specs.Laws.{cells_fit, few_fit, no_cell};
 ghost use Rattle.tally.proofs.Bounds.{bounded_lowered, bounded_at, bounded_from};
-ghost use Rattle.std.proofs.Common.{arith, rules};
 
 use tally::{CountedPairs, PAIRS, Pair, Refusal, Tally};
 
@@ -42,15 +41,15 @@ impl Tally for Full {
 
     ghost fits = { full_fits };
 
-    ghost outside = { first_of (Prim.search rules, Prim.grind (arith, Self.row.coded.inj)) };
+    ghost outside = { λ t p o. no_cell t.cells p o };
 
     ghost own = { λ t. cells_fit t.cells t.low };
 
-    ghost lowered = { λ c d less h. bounded_lowered 8191 c d less h };
+    ghost lowered = { bounded_lowered 8191 };
 
     ghost bounded = { λ c p i h. bounded_at 8191 c h p i };
 
-    ghost few = { λ c few low. bounded_from 8191 c (λ p i. omega (arith, low p i)) };
+    ghost few = { few_fit };
 
     fn blank() -> Full {
         Full { cells: [0; 256] }

@@ -75,10 +75,10 @@ module _ (c d : Counts) where
       ∙ sym (first_at w m p left.inn left.from
       (λ i a b. omega (arith, left.between i a b, right.between i a (omega arith)))
       (λ z. left.some (omega (arith, count, z)))))
-      (λ (first-right : rank q < rank p).
-      let other : c q ≡ 0 = ap c (sym (at_rank q right.inn)) ∙ left.between (rank q) right.from first-right in
+      (λ (first_right : rank q < rank p).
+      let other : c q ≡ 0 = ap c (sym (at_rank q right.inn)) ∙ left.between (rank q) right.from first_right in
       let count : y.1 ≡ w q = omega (arith, right.is, other) in
-      ap Some (cond-false _ _ _ (le-ltb (rank p) (rank q) (omega arith)) ∙ cond-true _ _ _ (lt-ltb _ _ first-right) ∙ ap (λ n. (q, n)) count)
+      ap Some (cond-false _ _ _ (le-ltb (rank p) (rank q) (omega arith)) ∙ cond-true _ _ _ (lt-ltb _ _ first_right) ∙ ap (λ n. (q, n)) count)
       ∙ sym (first_at w m q right.inn right.from
       (λ i a b. omega (arith, left.between i a (omega arith), right.between i a b))
       (λ z. right.some (omega (arith, count, z))))))
@@ -90,13 +90,13 @@ pub record Merging (c d : Counts) (a b merged : List (Pair × ℕ)) (m : ℕ) : 
   pub right : b ≡ rest d m
   pub done : merged ≡ counted_pairs (below (larger c d) m)
 
-module _ (c d : Counts) (ranged-c : Ranged c) (ranged-d : Ranged d) where
+module _ (c d : Counts) (ranged_c : Ranged c) (ranged_d : Ranged d) where
   pub merging_none : (a b : List (Pair × ℕ)) → a ≡ counted_pairs c → b ≡ counted_pairs d → Merging c d a b [] 0
   merging_none a b e f =
       record { left = e ∙ all_rest c; right = f ∙ all_rest d; done = sym (ap counted_pairs (sym (below_none (w c d))) ∙ none_counted) }
 
   ranged : Ranged (w c d)
-  ranged p o = omega (arith, ranged-c p o, ranged-d p o)
+  ranged p o = omega (arith, ranged_c p o, ranged_d p o)
 
   module _ (a b merged : List (Pair × ℕ)) (m : ℕ) (so_far : Merging c d a b merged m) where
     module _ (q : Pair) (n : ℕ) (front : merged_front a b ≡ Some (q, n)) where
@@ -118,20 +118,20 @@ module _ (c d : Counts) (ranged-c : Ranged c) (ranged-d : Ranged d) where
 
       pub merging_more : Merging c d (cond (heads q a) (drop 1 a) a) (cond (heads q b) (drop 1 b) b) (merged ++ (q, n) ∷ []) (rank q + 1)
       merging_more =
-          let zero-c : (i : ℕ) → m ≤ i → i < rank q → c (pair_at i) ≡ 0 = λ i l h. omega (arith, next.between i l h) in
-          let zero-d : (i : ℕ) → m ≤ i → i < rank q → d (pair_at i) ≡ 0 = λ i l h. omega (arith, next.between i l h) in
+          let zero_c : (i : ℕ) → m ≤ i → i < rank q → c (pair_at i) ≡ 0 = λ i l h. omega (arith, next.between i l h) in
+          let zero_d : (i : ℕ) → m ≤ i → i < rank q → d (pair_at i) ≡ 0 = λ i l h. omega (arith, next.between i l h) in
           record {
-            left = ap (λ xs. cond (heads q xs) (drop 1 xs) xs) so_far.left ∙ past_is c m q next.inn next.from zero-c;
-            right = ap (λ xs. cond (heads q xs) (drop 1 xs) xs) so_far.right ∙ past_is d m q next.inn next.from zero-d;
+            left = ap (λ xs. cond (heads q xs) (drop 1 xs) xs) so_far.left ∙ past_is c m q next.inn next.from zero_c;
+            right = ap (λ xs. cond (heads q xs) (drop 1 xs) xs) so_far.right ∙ past_is d m q next.inn next.from zero_d;
             done = sym with_pair;
           }
 
       -- one entry more than there are places
       pub merging_stops : none_above 8191 c ≡ true → none_above 8191 d ≡ true → length merged ≡ 96 → refuses {A = Unit {0}} q ≡ verdict listed_fits (w c d) tt
-      merging_stops low-c low-d full =
+      merging_stops low_c low_d full =
           let r = rank q in
           let low : none_above 8191 (below (w c d) r) ≡ true =
-          bounded_lowered 8191 (w c d) (below (w c d) r) (λ p i. below_le (w c d) r p) (bounded_larger 8191 c d low-c low-d) in
+          bounded_lowered 8191 (w c d) (below (w c d) r) (λ p i. below_le (w c d) r p) (bounded_larger 8191 c d low_c low_d) in
           let many : counted (below (w c d) r) ≡ 96 = ap counted (sym up_to_pair) ∙ ap length (sym so_far.done) ∙ full in
           let too_many : counted (below (w c d) (r + 1)) ≡ 97 = ap length with_pair ∙ length_push merged (q, n) ∙ ap (λ k. k + 1) full in
           sym (stopped tt listed_fits fits_lowered (w c d) r (rank_below q next.inn)

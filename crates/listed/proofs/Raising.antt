@@ -68,29 +68,29 @@ module _ (es : List (Pair × ℕ)) (ordered : InOrder es) (p : Pair) (i : inside
       (λ j. parted.0 j ++ ((p, most j) ∷ after j)) ∙ sym (raised_between c p i n (omega (arith, most)))
 
 -- a listed tally t, and the position at which a pair's entry stands or would stand in it
-module _ (t : Listed) (p : Pair) (at n : ℕ) (sought-there : Sought (listed t) p at) (low : n ≤ 8191) where
+module _ (t : Listed) (p : Pair) (at n : ℕ) (sought_there : Sought (listed t) p at) (low : n ≤ 8191) where
   after : (zs : List (Pair × ℕ)) → zs ≡ counted_pairs (raised (count_of (listed t)) p n) → Kept zs (raised (count_of (listed t)) p n)
   after =
       kept (raised (count_of (listed t)) p n)
-      (ranged_raised (count_of (listed t)) p n sought-there.in_range (in_order_ranged (listed t) t.ordered))
+      (ranged_raised (count_of (listed t)) p n sought_there.in_range (in_order_ranged (listed t) t.ordered))
       (bounded_raised 8191 (count_of (listed t)) p n low t.low)
 
   pub raise_kept : at < t.len → heads p (drop at (listed t)) ≡ true → (m : ℕ) → m ≡ max (get_or t.entries at no_entry).1 n
       → Kept (take t.len (set t.entries at (p, m))) (raised (count_of (listed t)) p n)
   raise_kept within there m most =
-      let counts = counted_there (listed t) t.ordered p sought-there.in_range at sought-there.here there in
+      let counts = counted_there (listed t) t.ordered p sought_there.in_range at sought_there.here there in
       let entry = sym (get_or-take t.len t.entries at no_entry within)
-      ∙ entry_there (listed t) t.ordered p sought-there.in_range at sought-there.here counts no_entry in
-      let most-there : m ≡ max (count_of (listed t) p) n = most ∙ ap (λ (e : Pair × ℕ). max e.1 n) entry in
+      ∙ entry_there (listed t) t.ordered p sought_there.in_range at sought_there.here counts no_entry in
+      let most_there : m ≡ max (count_of (listed t) p) n = most ∙ ap (λ (e : Pair × ℕ). max e.1 n) entry in
       after _ (take-set-lt t.len t.entries at (p, m) within
-      ∙ ap (λ k. set (listed t) at (p, k)) most-there
-      ∙ raised_there (listed t) t.ordered p sought-there.in_range at sought-there.here counts n)
+      ∙ ap (λ k. set (listed t) at (p, k)) most_there
+      ∙ raised_there (listed t) t.ordered p sought_there.in_range at sought_there.here counts n)
 
   pub insert_kept : heads p (drop at (listed t)) ≡ false → 0 < n → (zs : List (Pair × ℕ)) → zs ≡ take at (listed t) ++ ((p, n) ∷ drop at (listed t))
       → Kept zs (raised (count_of (listed t)) p n)
   insert_kept absent some zs e =
-      let z = not_counted (listed t) t.ordered p sought-there.in_range at sought-there.here absent in
-      after zs (e ∙ put_there (listed t) t.ordered p sought-there.in_range at sought-there.here n z some)
+      let z = not_counted (listed t) t.ordered p sought_there.in_range at sought_there.here absent in
+      after zs (e ∙ put_there (listed t) t.ordered p sought_there.in_range at sought_there.here n z some)
 
   -- there is no place for one pair more
   pub too_many : heads p (drop at (listed t)) ≡ false → 0 < n → t.len ≡ 96 → listed_fits (raised (count_of (listed t)) p n) ≡ false
@@ -98,7 +98,7 @@ module _ (t : Listed) (p : Pair) (at n : ℕ) (sought-there : Sought (listed t) 
       let es = listed t in
       let zs = take at es ++ ((p, n) ∷ drop at es) in
       let new = insert_kept absent some zs refl in
-      let long : length zs ≡ length es + 1 = length-insert es at (p, n) (omega (arith, sought-there.here, seek_le (rank p) es)) in
+      let long : length zs ≡ length es + 1 = length-insert es at (p, n) (omega (arith, sought_there.here, seek_le (rank p) es)) in
       let many : counted (raised (count_of es) p n) ≡ 97 =
       ap counted (sym new.counts) ∙ ap length (sym new.ordered) ∙ omega (arith, long, full, t.sized, length-take t.len t.entries) in
       and_right (none_above 8191 (raised (count_of es) p n)) _ (lt-leb _ _ (omega (arith, many)))

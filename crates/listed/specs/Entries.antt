@@ -1,7 +1,7 @@
 -- What a listed tally keeps: its counted pairs in order, each with its count.
 --
 --   listed_fits  which tables of counts fit: at most 96 counts that are not 0, none above 8,191
---   InOrder     a list holds the counted pairs of what it counts: each once, in order, and none that counts 0
+--   InOrder      a list holds the counted pairs of what it counts: each once, in order, and none that counts 0
 --   seek         how many entries stand before a place of the order
 --   no_entry     an entry that counts nothing
 use Rattle.std.specs.Prelude.{◌≡◌, ℕ, suc, Bool, cond, ◌&&◌, List, [], ◌∷◌, nat_le, nat_lt}

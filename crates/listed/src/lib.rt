@@ -7,11 +7,7 @@ ghost use Rattle.tally.specs.Answers.{verdict};
 ghost use Rattle.listed.specs.Entries.{InOrder, seek, listed_fits};
 ghost use Rattle.listed.specs.Listing.{listed, Sought};
 ghost use Rattle.listed.specs.Merging.{front_of, merged_front, heads};
-ghost use Rattle.listed.specs.Laws.{fits_lowered, in_order_fits, in_order_ranged};
-ghost use Rattle.std.proofs.Common.{arith};
-ghost use Rattle.std.proofs.lemmas.List.{length-take};
-ghost use Rattle.std.proofs.lemmas.Bool.{and_parts, and_from, le-leb};
-ghost use Rattle.tally.proofs.Bounds.{bounded_at, bounded_from};
+ghost use Rattle.listed.specs.Laws.{few_fit, fits_bounded, fits_lowered, front_short, in_order_fits, in_order_ranged};
 
 use tally::{CountedPairs, Pair, Refusal, Tally};
 
@@ -197,15 +193,15 @@ impl Tally for Listed {
 
     ghost fits = { listed_fits };
 
-    ghost outside = { λ t p o. in_order_ranged (take t.len t.entries) t.ordered p o };
+    ghost outside = { λ t p o. in_order_ranged (listed t) t.ordered p o };
 
-    ghost own = { λ t. in_order_fits (take t.len t.entries) t.ordered t.low (omega (arith, length-take t.len t.entries)) };
+    ghost own = { λ t. in_order_fits (listed t) t.ordered t.low (front_short t.len t.entries t.few) };
 
     ghost lowered = { fits_lowered };
 
-    ghost bounded = { λ c p i h. bounded_at 8191 c (and_parts (none_above 8191 c) _ h).0 p i };
+    ghost bounded = { fits_bounded };
 
-    ghost few = { λ c few low. and_from _ _ (bounded_from 8191 c (λ p i. omega (arith, low p i))) (le-leb _ _ (omega arith)) };
+    ghost few = { few_fit };
 
     fn blank() -> Listed {
         Listed {

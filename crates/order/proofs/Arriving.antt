@@ -24,7 +24,7 @@ use Rattle.order.proofs.Knowing.{knowing_same}
 use Rattle.order.proofs.Told.{told_skip, told_take}
 use Rattle.order.proofs.Stages.{test_same, test_here, test_off, on_wire}
 use Rattle.order.proofs.Core.{Core, core_hand}
-use Rattle.order.proofs.Ripe.{Hands-ripe, hands_ripe}
+use Rattle.order.proofs.Ripe.{HandsRipe, hands_ripe}
 use Rattle.order.proofs.Invariant.{Invariant}
 
 module _ {B : Type 0} where
@@ -40,7 +40,7 @@ module _ {B : Type 0} where
   -- the message x, which is on the wire, is ripe and is handed, and then what that makes ripe
   pub hand_wire : {R : ℕ → Row B} {s : House B} (x : ℕ) → Core R s → x < s.used → is_wire (s.stage x) ≡ true
       → ripe s.sizes.stations s.handed (R x) ≡ true
-      → Hands-ripe R (R x).addressee (hand (R x) x (s.back (R x).addressee) s) (hand_all (R x) x s).1
+      → HandsRipe R (R x).addressee (hand (R x) x (s.back (R x).addressee) s) (hand_all (R x) x s).1
   unfolding hand
   hand_wire {R} {s} x C hx wx rp = hands_ripe R (length (s.back j)) j (hand (R x) x (s.back j) s)
       (core_hand C x (s.back j) hx w.0 rp
@@ -130,7 +130,7 @@ module _ {B : Type 0} where
           (λ m l. D.read_same m ∙ test_same is_read s.stage x Unread (sym w.3) m) (λ m ne. D.wire_same m ∙ test_off is_wire s.stage x Unread m ne);
     })
       where
-        D : Hands-ripe R j (hand (R x) x (s.back j) s) (hand_all (R x) x s).1
+        D : HandsRipe R j (hand (R x) x (s.back j) s) (hand_all (R x) x s).1
         D = hand_wire x I.core hx wx rp
 
         l : List ℕ

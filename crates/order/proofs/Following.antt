@@ -9,7 +9,7 @@ use Rattle.rules.specs.Steps.{grant, decided, step}
 use Rattle.rules.specs.Opening.{opening_refusal, opened}
 use Rattle.rules.specs.Runs.{History, followed}
 use Rattle.order.proofs.Invariant.{Invariant, keep_denied}
-use Rattle.order.proofs.InHouse.{In-house, in_opened}
+use Rattle.order.proofs.InHouse.{InHouse, in_opened}
 use Rattle.order.proofs.Opening.{opened_holds}
 use Rattle.order.proofs.Staying.{in_grant}
 use Rattle.order.proofs.Keeping.{Agrees, roll_kept, keep}
@@ -19,7 +19,7 @@ module _ {B : Type 0} where
   -- in_house   the tables name only what is in the house
   pub record Sure (h : History B) (s : House B) : Type 0 where
     pub invariant : (R : ℕ → Row B) → Agrees R s → Invariant R h s
-    pub in_house : In-house s
+    pub in_house : InHouse s
 
   pub sure_opened : (s : House B) (z : Sizes) (l : List ℕ) → opening_refusal z l ≡ None → Sure [] (opened z l s)
   sure_opened s z l e = record { invariant = λ R agrees. opened_holds s z l e R; in_house = in_opened s z l e }

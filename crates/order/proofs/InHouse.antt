@@ -29,7 +29,7 @@ module _ {B : Type 0} where
   -- used_in      no more rows are in use than there are
   -- rows_in, stages_in, places_in, passed_on, notices_in   the stations and handsets that are named by rows in use, by stages and
   --              places, by what a station knows of handsets that it passed on, and by notices are in the house
-  pub record In-house (s : House B) : Type 0 where
+  pub record InHouse (s : House B) : Type 0 where
     pub shape_right : AllYes (shape_questions s.sizes)
     pub used_in : s.used ≤ s.sizes.rows
     pub rows_in : (m : ℕ) → m < s.used → row_in s.sizes (s.rows m) ≡ true
@@ -48,7 +48,7 @@ start_in : (z : Sizes) (l : List ℕ) → start_right z l ≡ true → 0 < z.sta
 start_in z [] e h j = h
 start_in z (x ∷ l) e h j = listed_in z.stations (x ∷ l) (and_parts (eqb (length (x ∷ l)) z.handsets) (all_in (λ p. ltb p z.stations) (x ∷ l)) e).1 h j
 
-pub in_opened : {B : Type 0} (s : House B) (z : Sizes) (l : List ℕ) → opening_refusal z l ≡ None → In-house (opened z l s)
+pub in_opened : {B : Type 0} (s : House B) (z : Sizes) (l : List ℕ) → opening_refusal z l ≡ None → InHouse (opened z l s)
 in_opened s z l e =
     let p = both_none (first_no (shape_questions z)) (first_no ((StartList, start_right z l) ∷ [])) e in
     let shape = all_yes (shape_questions z) p.0 in

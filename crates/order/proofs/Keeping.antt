@@ -22,7 +22,7 @@ use Rattle.order.proofs.Reading.{keep_read}
 use Rattle.order.proofs.Moving.{keep_register, keep_release, keep_settle}
 use Rattle.order.proofs.Arriving.{arrive_ways, hand_wire, keep_arrive}
 use Rattle.order.proofs.Granted.{answers}
-use Rattle.order.proofs.InHouse.{In-house, station_in}
+use Rattle.order.proofs.InHouse.{InHouse, station_in}
 
 -- the room that the question about the book asks for
 room : (held rp : Bool) (b places : ℕ) → (not held || ltb b (cond rp places (places - 1))) ≡ true → held ≡ true
@@ -37,7 +37,7 @@ front_in (x ∷ l) e = times_front x l
 
 module _ {B : Type 0} where
   -- the rows in use in s are in use in s', and the same
-  pub record Roll-kept (s s' : House B) : Type 0 where
+  pub record RollKept (s s' : House B) : Type 0 where
     pub more : s.used ≤ s'.used
     pub same : (m : ℕ) → m < s.used → s'.rows m ≡ s.rows m
 
@@ -46,7 +46,7 @@ module _ {B : Type 0} where
   Agrees R s = (m : ℕ) → m < s.used → s.rows m ≡ R m
 
   module _ (fits : Counts → Bool) {h : History B} {s : House B} where
-    pub roll_kept : Invariant s.rows h s → (c : Call B) → refusal fits s c ≡ None → Roll-kept s (grant s c).1
+    pub roll_kept : Invariant s.rows h s → (c : Call B) → refusal fits s c ≡ None → RollKept s (grant s c).1
     unfolding hand stand_back send_on send_from read_at register_at release_from settle_at
     roll_kept I (Send a j b) e = record {
       more = omega arith;
@@ -54,8 +54,8 @@ module _ {B : Type 0} where
     }
     roll_kept I (Arrive x) e =
         let o = (answers fits s (Arrive x) e).own in
-        arrive_ways (λ (r : Answer B × House B). Roll-kept s r.1) (heading (s.stage x)) (s.rows x) x s
-        (λ held rp. subst⁻¹ (Roll-kept s) (hand_wire x I.core (ltb-true _ _ o.0) o.1.0 rp).is (record { more = le_refl _; same = λ m l. refl }))
+        arrive_ways (λ (r : Answer B × House B). RollKept s r.1) (heading (s.stage x)) (s.rows x) x s
+        (λ held rp. subst⁻¹ (RollKept s) (hand_wire x I.core (ltb-true _ _ o.0) o.1.0 rp).is (record { more = le_refl _; same = λ m l. refl }))
         (λ held unripe. record { more = le_refl _; same = λ m l. refl })
         (λ away. record { more = le_refl _; same = λ m l. refl })
     roll_kept I (ReadNext j) e = record { more = le_refl _; same = λ m l. refl }
@@ -63,7 +63,7 @@ module _ {B : Type 0} where
     roll_kept I (Release p) e = record { more = le_refl _; same = λ m l. refl }
     roll_kept I (Settle j) e = record { more = le_refl _; same = λ m l. refl }
 
-    module _ {R : ℕ → Row B} (I : Invariant R h s) (N : In-house s) where
+    module _ {R : ℕ → Row B} (I : Invariant R h s) (N : InHouse s) where
       pub keep : (c : Call B) → refusal fits s c ≡ None → Agrees R (grant s c).1 → Invariant R ((c, (grant s c).0) ∷ h) (grant s c).1
       unfolding send_from
       keep (Send a j b) e agrees =

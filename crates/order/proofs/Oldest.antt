@@ -23,7 +23,7 @@ use Rattle.order.proofs.Stages.{test_here}
 use Rattle.order.proofs.Arriving.{hand_wire}
 use Rattle.order.proofs.Invariant.{Invariant}
 use Rattle.order.proofs.Granted.{granted}
-use Rattle.order.proofs.InHouse.{In-house}
+use Rattle.order.proofs.InHouse.{InHouse}
 use Rattle.order.proofs.Sound.{sound_holds}
 
 module _ {B : Type 0} {h : History B} {s : House B} (I : Invariant s.rows h s) where
@@ -44,7 +44,7 @@ module _ {B : Type 0} {h : History B} {s : House B} (I : Invariant s.rows h s) w
           absurd (omega (arith, w.3, subst (λ (y : Pair). number R w.0 < s.handed y) w.2 done)))
           (λ le. le) (cases_lt (s.handed (beside i (R m))) ((R m).tag (beside i (R m))))
 
-  pub oldest_stands : (fits : Counts → Bool) → In-house s → OldestGoes fits h s
+  pub oldest_stands : (fits : Counts → Bool) → InHouse s → OldestGoes fits h s
   unfolding hand
   oldest_stands fits N j m o = (not_back, goes)
     where

@@ -35,7 +35,7 @@ module _ {B : Type 0} where
   -- shorter        the back list is no longer than it was
   -- same_book      the book holds as many messages as before
   -- none_ripe      none of the messages that still stand back is ripe
-  pub record Hands-ripe (R : ℕ → Row B) (j : ℕ) (s s' : House B) : Type 0 where
+  pub record HandsRipe (R : ℕ → Row B) (j : ℕ) (s s' : House B) : Type 0 where
     pub handed : Counts
     pub unread : ℕ → List ℕ
     pub back : ℕ → List ℕ
@@ -54,7 +54,7 @@ module _ {B : Type 0} where
 
   -- where none is ripe, nothing is done
   hands_none : {R : ℕ → Row B} {s : House B} (j : ℕ) → Core R s
-      → ((m : ℕ) → 0 < times m (s.back j) → ripe s.sizes.stations s.handed (R m) ≡ false) → Hands-ripe R j s s
+      → ((m : ℕ) → 0 < times m (s.back j) → ripe s.sizes.stations s.handed (R m) ≡ false) → HandsRipe R j s s
   hands_none {s = s} j C quiet = record {
     handed = s.handed;
     unread = s.unread;
@@ -91,7 +91,7 @@ module _ {B : Type 0} where
     unfolding hand
     hand_shorter = length_without x (s.back (R x).addressee) there ∙ ap (λ l. suc (length l)) (sym (updated_here s.back (R x).addressee left))
 
-    hands_one : {s' : House B} → Hands-ripe R (R x).addressee (hand (R x) x left s) s' → Hands-ripe R (R x).addressee s s'
+    hands_one : {s' : House B} → HandsRipe R (R x).addressee (hand (R x) x left s) s' → HandsRipe R (R x).addressee s s'
     unfolding hand
     hands_one D = record {
       handed = D.handed;
@@ -119,9 +119,9 @@ module _ {B : Type 0} where
         b = stands_back (s.stage x) was.2
 
   hands_next : (R : ℕ → Row B) (n j : ℕ) (s : House B) → Core R s → length (s.back j) ≤ suc n
-      → ((t : House B) → Core R t → length (t.back j) ≤ n → Hands-ripe R j t (hand_ripe n j t).1)
+      → ((t : House B) → Core R t → length (t.back j) ≤ n → HandsRipe R j t (hand_ripe n j t).1)
       → (o : Option ℕ) → first (ripe_in s) (s.back j) ≡ o
-      → Hands-ripe R j s (by_option (0, s) (λ x. one_more (hand_ripe n j (hand (s.rows x) x (without x (s.back j)) s))) o).1
+      → HandsRipe R j s (by_option (0, s) (λ x. one_more (hand_ripe n j (hand (s.rows x) x (without x (s.back j)) s))) o).1
   hands_next R n j s C l later None e = hands_none j C (λ m h.
       subst (λ (r : Row B). ripe s.sizes.stations s.handed r ≡ false) (C.rows_are m (back_is C j m h).0) (first_none (ripe_in s) (s.back j) e m h))
   hands_next R n j s C l later (Some x) e =
@@ -129,15 +129,15 @@ module _ {B : Type 0} where
       let w = back_is C j x f.1 in
       let row = C.rows_are x w.0 in
       let rp = subst (λ (r : Row B). ripe s.sizes.stations s.handed r ≡ true) row f.0 in
-      subst⁻¹ (λ (r : Row B). Hands-ripe R j s (hand_ripe n j (hand r x (without x (s.back j)) s)).1) row
+      subst⁻¹ (λ (r : Row B). HandsRipe R j s (hand_ripe n j (hand r x (without x (s.back j)) s)).1) row
       (subst (λ i. 0 < times x (s.back i) → length (s.back i) ≤ suc n
-      → ((t : House B) → Core R t → length (t.back i) ≤ n → Hands-ripe R i t (hand_ripe n i t).1)
-      → Hands-ripe R i s (hand_ripe n i (hand (R x) x (without x (s.back i)) s)).1) w.1
+      → ((t : House B) → Core R t → length (t.back i) ≤ n → HandsRipe R i t (hand_ripe n i t).1)
+      → HandsRipe R i s (hand_ripe n i (hand (R x) x (without x (s.back i)) s)).1) w.1
       (λ there l later. hands_one x C there rp (later (hand (R x) x (without x (s.back (R x).addressee)) s) (hand_core x C there rp)
       (omega (arith, hand_shorter x C there rp))))
       f.1 l later)
 
-  pub hands_ripe : (R : ℕ → Row B) (n j : ℕ) (s : House B) → Core R s → length (s.back j) ≤ n → Hands-ripe R j s (hand_ripe n j s).1
+  pub hands_ripe : (R : ℕ → Row B) (n j : ℕ) (s : House B) → Core R s → length (s.back j) ≤ n → HandsRipe R j s (hand_ripe n j s).1
   unfolding hand_ripe
   hands_ripe R zero j s C l = hands_none j C (λ m h.
       absurd (omega (arith, times_nil m, ap (times m) (nil_from_length (s.back j) (omega arith)))))

@@ -13,7 +13,7 @@ use Rattle.order.proofs.Counting.{Counted}
 use Rattle.order.proofs.Totals.{few_notices}
 use Rattle.order.proofs.Core.{Core, unread_is, back_is}
 use Rattle.order.proofs.Invariant.{Invariant}
-use Rattle.order.proofs.InHouse.{In-house}
+use Rattle.order.proofs.InHouse.{InHouse}
 
 module _ {B : Type 0} where
   module _ {R : ℕ → Row B} {u : ℕ} {counts carried : ℕ → Counts} (C : Counted R u counts carried) where
@@ -34,7 +34,7 @@ module _ {B : Type 0} where
         absurd (omega (arith, w.1, w.3, tag_small (suc w.0) w.0 (omega arith) w.1 (pair_of (R w.0)))))
         (λ le. le) (cases_lt u (counts p q))
 
-  pub sound_holds : {h : History B} {s : House B} → Invariant s.rows h s → In-house s → sound s ≡ true
+  pub sound_holds : {h : History B} {s : House B} → Invariant s.rows h s → InHouse s → sound s ≡ true
   unfolding sound
   sound_holds {s = s} I N = and_from _ _
       (and_from _ _ (and_from _ _ (le-leb s.used s.sizes.rows N.used_in) (all_below_from (row_sound s) s.used row))

@@ -23,14 +23,14 @@ use Rattle.order.proofs.Ripe.{with_books}
 use Rattle.order.proofs.Arriving.{arrive_ways, hand_wire}
 use Rattle.order.proofs.Invariant.{Invariant}
 use Rattle.order.proofs.Granted.{answers}
-use Rattle.order.proofs.InHouse.{station_in, row_in, In-house}
+use Rattle.order.proofs.InHouse.{station_in, row_in, InHouse}
 
 -- a stage is in the house if it is so where it is the wire
 stage_from : (stations : ℕ) (t : Stage) → (is_wire t ≡ true → stage_in stations t ≡ true) → stage_in stations t ≡ true
 stage_from stations t h = ⊎_elim h (λ e. or_left _ _ (ap not e)) (cases_Bool (is_wire t))
 
 module _ {B : Type 0} where
-  module _ {h : History B} {s : House B} (I : Invariant s.rows h s) (N : In-house s) where
+  module _ {h : History B} {s : House B} (I : Invariant s.rows h s) (N : InHouse s) where
     abbrev stations : ℕ
     stations = s.sizes.stations
 
@@ -47,7 +47,7 @@ module _ {B : Type 0} where
 
     -- handed counts, lists and stages change, and the stages are in the house
     staged : (handed : Counts) (unread back : ℕ → List ℕ) (stage : ℕ → Stage) → ((m : ℕ) → m < s.used → stage_in stations (stage m) ≡ true)
-        → In-house (with_books handed unread back stage s)
+        → InHouse (with_books handed unread back stage s)
     staged handed unread back stage new = record {
       shape_right = N.shape_right;
       used_in = N.used_in;
@@ -61,10 +61,10 @@ module _ {B : Type 0} where
     -- the message x, which is on the wire, arrives at station p, which holds its addressee or has passed it on
     in_arrive : (p x : ℕ) → x < s.used → is_wire (s.stage x) ≡ true
         → (holds p (s.place (s.rows x).addressee) ≡ false → is_some (s.passed p (s.rows x).addressee) ≡ true)
-        → In-house (arrive_at p (s.rows x) x s).1
+        → InHouse (arrive_at p (s.rows x) x s).1
     unfolding hand stand_back send_on
-    in_arrive p x hx wx on = arrive_ways (λ (r : Answer B × House B). In-house r.1) p (s.rows x) x s
-        (λ held rp. let D = hand_wire x I.core hx wx rp in subst⁻¹ In-house D.is (staged D.handed D.unread D.back D.stage
+    in_arrive p x hx wx on = arrive_ways (λ (r : Answer B × House B). InHouse r.1) p (s.rows x) x s
+        (λ held rp. let D = hand_wire x I.core hx wx rp in subst⁻¹ InHouse D.is (staged D.handed D.unread D.back D.stage
         (λ m l. stage_from stations (D.stage m)
         (λ e. subst⁻¹ (λ t. stage_in stations t ≡ true) (D.wire_stays m e) (stages_updated x Unread refl m l)))))
         (λ held unripe. staged s.handed s.unread _ _ (stages_updated x Back refl))
@@ -72,7 +72,7 @@ module _ {B : Type 0} where
         (⊎_elim (λ e. absurd (both_ways _ (ap not (on away)) e)) (λ e. e) (or_cases _ _ (N.passed_on p (s.rows x).addressee)))))
 
     module _ (fits : Counts → Bool) where
-      pub in_grant : (c : Call B) → refusal fits s c ≡ None → In-house (grant s c).1
+      pub in_grant : (c : Call B) → refusal fits s c ≡ None → InHouse (grant s c).1
       unfolding send_from read_at register_at release_from settle_at
       in_grant (Send a j b) e =
           let o = (answers fits s (Send a j b) e).own in

@@ -29,19 +29,19 @@ module _ (fits : Counts → Bool) (bs : List ℕ) (n : ℕ) where
         so_far.left ∙ ap (λ k. first_no (pairs_questions fits bs i k)) e
         ∙ (λ j. first_no (pair_questions fits bs (sym so_far.here j) (sym so_far.lowest j) (sym so_far.counts j) ++ pairs_questions fits bs (suc i) (n - suc i)))
 
-    pub going_more : i < n → first_no (pair_questions fits bs place l c) ≡ None → (next_place next-least : ℕ) (d : Counts)
-        → next_place ≡ place + 4 → next-least ≡ suc (rank (pair_from bs place)) → d ≡ with_pair bs place c → Going fits bs n (i + 1) next_place next-least d
+    pub going_more : i < n → first_no (pair_questions fits bs place l c) ≡ None → (next_place next_least : ℕ) (d : Counts)
+        → next_place ≡ place + 4 → next_least ≡ suc (rank (pair_from bs place)) → d ≡ with_pair bs place c → Going fits bs n (i + 1) next_place next_least d
     unfolding counts_in
-    going_more h all_yes next_place next-least d at_place at_least_lem counts =
+    going_more h all_yes next_place next_least d at_place at_least counts =
         let one : suc i ≡ i + 1 = sym (add-one i) in
-        let lowest-next : next-least ≡ least bs (suc i) = at_least_lem ∙ ap (λ p. suc (rank (pair_from bs p))) so_far.here in
-        let counts-next : d ≡ counts_in bs (suc i) = counts ∙ (λ j. with_pair bs (so_far.here j) (so_far.counts j)) in
-        let left-next = next h ∙ passed (pair_questions fits bs place l c) (pairs_questions fits bs (suc i) (n - suc i)) all_yes in
+        let lowest_next : next_least ≡ least bs (suc i) = at_least ∙ ap (λ p. suc (rank (pair_from bs p))) so_far.here in
+        let counts_next : d ≡ counts_in bs (suc i) = counts ∙ (λ j. with_pair bs (so_far.here j) (so_far.counts j)) in
+        let left_next = next h ∙ passed (pair_questions fits bs place l c) (pairs_questions fits bs (suc i) (n - suc i)) all_yes in
         record {
           here = omega (arith, at_place, so_far.here);
-          lowest = lowest-next ∙ ap (least bs) one;
-          counts = counts-next ∙ ap (counts_in bs) one;
-          left = left-next ∙ ap (λ k. first_no (pairs_questions fits bs k (n - k))) one;
+          lowest = lowest_next ∙ ap (least bs) one;
+          counts = counts_next ∙ ap (counts_in bs) one;
+          left = left_next ∙ ap (λ k. first_no (pairs_questions fits bs k (n - k))) one;
         }
 
     pub going_stops : i < n → (t : Told) → first_no (pair_questions fits bs place l c) ≡ Some t → first_no (pairs_questions fits bs 0 n) ≡ Some t

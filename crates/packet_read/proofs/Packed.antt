@@ -40,17 +40,17 @@ module _ (bs : List ℕ) (bytes : (i : ℕ) → byte_at bs i < 256) where
   told (suc i) = told i ++ (pair_from bs (pair_place i), count_from bs (pair_place i)) ∷ []
 
   -- i pairs are told: they are what is counted, and what the bytes say; nothing is counted from the least place of the next one on
-  record Told-so-far (i : ℕ) : Type 0 where
+  record ToldSoFar (i : ℕ) : Type 0 where
     lists : counted_pairs (counts_in bs i) ≡ told i
     many : length (told i) ≡ i
     written : drop 13 bs ≡ flat_map pair_bytes (told i) ++ drop (pair_place i) bs
     blank : (k : ℕ) → least bs i ≤ k → k < pairs → counts_in bs i (pair_at k) ≡ 0
 
-  none_told : Told-so-far 0
+  none_told : ToldSoFar 0
   unfolding told counts_in
   none_told = record { lists = none_counted; many = refl; written = refl; blank = λ k l h. refl }
 
-  one_more : (i : ℕ) → Told-so-far i → pair_place i + 4 ≤ length bs → rises bs (pair_place i) (least bs i) ≡ true → Told-so-far (suc i)
+  one_more : (i : ℕ) → ToldSoFar i → pair_place i + 4 ≤ length bs → rises bs (pair_place i) (least bs i) ≡ true → ToldSoFar (suc i)
   unfolding told counts_in
   one_more i so_far long up =
       let p = pair_place i in
@@ -86,7 +86,7 @@ module _ (bs : List ℕ) (bytes : (i : ℕ) → byte_at bs i < 256) where
       (λ (l : i ≤ j). let e : j ≡ i = omega arith in subst Asked e (record { long = leb-true _ _ yeses.0; up = yeses.1.0 }))
       (cases_lt j i)
 
-  told_all : (n : ℕ) → ((i : ℕ) → i < n → Asked i) → Told-so-far n
+  told_all : (n : ℕ) → ((i : ℕ) → i < n → Asked i) → ToldSoFar n
   told_all zero asked = none_told
   told_all (suc n) asked = one_more n (told_all n (λ i h. asked i (omega arith))) (asked n (omega arith)).long (asked n (omega arith)).up
 
@@ -104,17 +104,17 @@ module _ (bs : List ℕ) (bytes : (i : ℕ) → byte_at bs i < 256) where
 
   accepted : (kind : ℕ) (lawful : List ℕ → Bool) (fits : Counts → Bool) → refusal kind lawful fits bs ≡ None → Accepted kind
   accepted kind lawful fits none =
-      let pair-list = pairs_questions fits bs 0 (pairs_told bs) in
-      let opens = all_yes (opening_questions bs ++ (head_questions kind bs ++ (pair-list ++ body_questions lawful bs))) none in
+      let pair_list = pairs_questions fits bs 0 (pairs_told bs) in
+      let opens = all_yes (opening_questions bs ++ (head_questions kind bs ++ (pair_list ++ body_questions lawful bs))) none in
       let mark = and_parts (eqb (byte_at bs 0) 78) _ opens.1.0 in
-      let mark-rest = and_parts (eqb (byte_at bs 1) 82) _ mark.1 in
+      let mark_rest = and_parts (eqb (byte_at bs 1) 82) _ mark.1 in
       let heads = opens.1.1.1.1 in
       let names = heads.1.1.1.1.1.1.1.1 in
-      let parts = yes_parts pair-list (body_questions lawful bs) names.1.1.1 in
+      let parts = yes_parts pair_list (body_questions lawful bs) names.1.1.1 in
       record {
         mark_0 = eqb-true _ _ mark.0;
-        mark_1 = eqb-true _ _ mark-rest.0;
-        mark_2 = eqb-true _ _ mark-rest.1;
+        mark_1 = eqb-true _ _ mark_rest.0;
+        mark_2 = eqb-true _ _ mark_rest.1;
         version = eqb-true _ _ opens.1.1.1.0;
         kind_is = eqb-true _ _ heads.1.0;
         long = leb-true _ _ names.1.1.0;
@@ -139,13 +139,13 @@ module _ (bs : List ℕ) (bytes : (i : ℕ) → byte_at bs i < 256) where
       let n = pairs_told bs in
       let all = told_all n holds.asked in
       let many : n ≡ counted (counts_in bs n) = sym (ap length all.lists ∙ all.many) in
-      let pairs-and-body : drop 13 bs ≡ flat_map pair_bytes (counted_pairs (counts_in bs n)) ++ (length (body_in bs) ∷ body_in bs) =
+      let pairs_and_body : drop 13 bs ≡ flat_map pair_bytes (counted_pairs (counts_in bs n)) ++ (length (body_in bs) ∷ body_in bs) =
       all.written ∙ (λ i. flat_map pair_bytes (sym all.lists i) ++ body_bytes kind holds i) in
-      let from-11 = from_word 11 (omega arith) ∙ (λ i. word_bytes (many i) ++ pairs-and-body i) in
-      let from-9 = from_word 9 (omega arith) ∙ ap (λ r. word_bytes (word_at bs 9) ++ r) from-11 in
-      let from-5 =
+      let from_11 = from_word 11 (omega arith) ∙ (λ i. word_bytes (many i) ++ pairs_and_body i) in
+      let from_9 = from_word 9 (omega arith) ∙ ap (λ r. word_bytes (word_at bs 9) ++ r) from_11 in
+      let from_5 =
       from_byte 5 kind (omega arith) holds.kind_is _
-      (from_byte 6 (byte_at bs 6) (omega arith) refl _ (from_byte 7 (byte_at bs 7) (omega arith) refl _ (from_byte 8 (byte_at bs 8) (omega arith) refl _ from-9))) in
+      (from_byte 6 (byte_at bs 6) (omega arith) refl _ (from_byte 7 (byte_at bs 7) (omega arith) refl _ (from_byte 8 (byte_at bs 8) (omega arith) refl _ from_9))) in
       sym
       (from_byte 0 78 (omega arith) holds.mark_0 _ (from_byte 1 82 (omega arith) holds.mark_1 _ (from_byte 2 83 (omega arith) holds.mark_2 _
-      (from_word 3 (omega arith) ∙ (λ i. word_bytes (holds.version i) ++ from-5 i)))))
+      (from_word 3 (omega arith) ∙ (λ i. word_bytes (holds.version i) ++ from_5 i)))))

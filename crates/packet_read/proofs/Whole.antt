@@ -48,15 +48,15 @@ pub record Headed (kind : ℕ) (bs : List ℕ) : Type 0 where
 pub headed : (kind : ℕ) (bs : List ℕ) → first_no (head_questions kind bs) ≡ None → Headed kind bs
 headed kind bs e =
     let y = all_yes (head_questions kind bs) e in
-    let kind-yes = y.1.0 in
+    let kind_yes = y.1.0 in
     let station = y.1.1.1.0 in
     let sender = y.1.1.1.1.1.0 in
     let addressee = and_parts (ltb (byte_at bs 8) 32) _ y.1.1.1.1.1.1.1.0 in
     let name = y.1.1.1.1.1.1.1.1.1.0 in
-    let long-yes = y.1.1.1.1.1.1.1.1.1.1.0 in
+    let long_yes = y.1.1.1.1.1.1.1.1.1.1.0 in
     record {
-      long = leb-true _ _ long-yes;
-      kind_is = eqb-true _ _ kind-yes;
+      long = leb-true _ _ long_yes;
+      kind_is = eqb-true _ _ kind_yes;
       ranged = and_from _ _ station (and_from _ _ sender (and_from _ _ addressee.0 (and_from _ _ addressee.1 name)));
     }
 

@@ -64,16 +64,16 @@ module _ (kind : ℕ) (lawful : List ℕ → Bool) (fits : Counts → Bool) (low
   many = whole_word (counted c)
 
   -- i pairs are read: the others are left, and what was read is counted
-  record Read-so-far (i : ℕ) : Type 0 where
+  record ReadSoFar (i : ℕ) : Type 0 where
     left : rest c (least bs i) ≡ drop i ps
     counts : counts_in bs i ≡ below c (least bs i)
 
-  read_none : Read-so-far 0
+  read_none : ReadSoFar 0
   unfolding counts_in
   read_none = record { left = sym (all_rest c); counts = below_none c }
 
   -- the pair with number i is the next counted one
-  module _ (i : ℕ) (so_far : Read-so-far i) (h : i < length ps) where
+  module _ (i : ℕ) (so_far : ReadSoFar i) (h : i < length ps) where
     abbrev x : Pair × ℕ
     x = get_or ps i (pair_at 0, 0)
 
@@ -106,7 +106,7 @@ module _ (kind : ℕ) (lawful : List ℕ → Bool) (fits : Counts → Bool) (low
         ∙ (λ j. raised (below c (rank q)) (sym at j) ((is_next.is ∙ ap c (sym at)) j))
         ∙ below_more c (rank q) holds.within (rank_below q is_next.inn)
 
-    read_more : Read-so-far (suc i)
+    read_more : ReadSoFar (suc i)
     unfolding counts_in
     read_more =
         record {
@@ -124,7 +124,7 @@ module _ (kind : ℕ) (lawful : List ℕ → Bool) (fits : Counts → Bool) (low
         (and_from _ _ (le-leb 1 n (omega (arith, is_next.some))) (le-leb n 8191 (omega (arith, is_next.is, holds.low q is_next.inn))))) in
         (le-leb _ _ (omega (arith, length_packet kind m)), (up, (ap fits with_it ∙ lowers c (below c (rank q + 1)) (λ p j. below_le c (rank q + 1) p) holds.fit, tt)))
 
-  read_some : (i : ℕ) → i ≤ length ps → Read-so-far i
+  read_some : (i : ℕ) → i ≤ length ps → ReadSoFar i
   read_some zero h = read_none
   read_some (suc i) h = read_more i (read_some i (omega arith)) (omega arith)
 
@@ -213,11 +213,11 @@ module _ (kind : ℕ) (lawful : List ℕ → Bool) (fits : Counts → Bool) (low
 
   no_refusal : refusal kind lawful fits bs ≡ None
   no_refusal =
-      let pairs-yes : AllYes (pairs_questions fits bs 0 (pairs_told bs)) = all_pairs (pairs_told bs) 0 (omega (arith, many)) in
+      let pairs_yes : AllYes (pairs_questions fits bs 0 (pairs_told bs)) = all_pairs (pairs_told bs) 0 (omega (arith, many)) in
       let after_head = pairs_questions fits bs 0 (pairs_told bs) ++ body_questions lawful bs in
       no_no (opening_questions bs ++ (head_questions kind bs ++ after_head))
       (yes_both (opening_questions bs) (head_questions kind bs ++ after_head) opens
-      (yes_both (head_questions kind bs) after_head headed (yes_both (pairs_questions fits bs 0 (pairs_told bs)) (body_questions lawful bs) pairs-yes bodied)))
+      (yes_both (head_questions kind bs) after_head headed (yes_both (pairs_questions fits bs 0 (pairs_told bs)) (body_questions lawful bs) pairs_yes bodied)))
 
   pub reads_back : reading kind lawful fits bs ≡ Ok m
   reads_back =

@@ -1,9 +1,9 @@
 -- The words of the law about the order of messages, over a history of calls and the house that it leaves.
 --
---   Sends, Reads, TakesIn   a call with its answer: handset a sends m to handset j; handset j reads m; m arrives and the
+--   Sends, Reads, TakesIn    a call with its answer: handset a sends m to handset j; handset j reads m; m arrives and the
 --                            answer is how many were handed
---   Sent, Read, TakenIn     there is such a call in the history
---   OnWire      m is sent and not taken in
+--   Sent, Read, TakenIn      there is such a call in the history
+--   OnWire       m is sent and not taken in
 --   Before       m came before m': a chain of messages leads from m to m', and the sender of each next one had sent or read
 --                the one ahead of it by an earlier call (the field's word is causal order)
 --   Oldest       of the messages to handset j that are not handed, m has the lowest name
@@ -13,12 +13,12 @@
 --   InOrder         of two messages to one handset of which one came before the other, the later is read only after the
 --                    earlier
 --   AsSent          a message's row says what was sent, and by whom to whom; what is read is what was sent
---   InOnePlace     a message sent is on the wire, standing back, unread or read, in just one of them, as its row says; its
+--   InOnePlace      a message sent is on the wire, standing back, unread or read, in just one of them, as its row says; its
 --                    addressee's lists hold it at most once, and no other handset's lists hold it
 --   ReadOnce        only its addressee reads a message, and once
 --   OldestGoes      the oldest message that is not handed does not stand back; if it heads for the station that holds its
 --                    addressee, an arrive call hands it over unless the book is full
---   FullHasUnread  a full book has something unread
+--   FullHasUnread   a full book has something unread
 use Rattle.std.specs.Prelude.{◌≡◌, ℕ, suc, ◌+◌, ◌<◌, ◌≤◌, Bool, true, false, ◌≢◌, ◌⊎◌, ◌↔◌, length, Some}
 use Rattle.tally.specs.Counts.{Counts}
 use Rattle.rules.specs.declared.place.Stage.TheVariants.{Wire}

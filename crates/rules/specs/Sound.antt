@@ -9,7 +9,7 @@
 --   station_sound  a station has at most as many notices as handsets are leaving it, has passed handsets to stations of
 --                  the house, and its notices name handsets and stations of the house
 --   sound          there are at most as many rows in use as rows, and all of that holds
-use Rattle.std.specs.Prelude.{ℕ, ◌+◌, Bool, not, ◌&&◌, ◌||◌, leb, List, length, Option, ◌==◌, nat_le, nat_lt}
+use Rattle.std.specs.Prelude.{ℕ, ◌+◌, Bool, not, ◌&&◌, ◌||◌, List, length, Option, ◌==◌, nat_le, nat_lt}
 use Rattle.tally.specs.declared.pair.Pair.{Pair}
 use Rattle.rules.specs.declared.place.Place.{Place}
 use Rattle.rules.specs.declared.place.Place.TheVariants.{Kept, Leaving, OnWay}
@@ -57,7 +57,7 @@ module _ {B : Type 0} where
   handset_sound s j =
       place_in s.sizes.stations (s.place j) && nat_le (book s j) s.sizes.places
       && names_sound s j (s.unread j) && names_sound s j (s.back j)
-      && all_below (λ i. leb (s.handed (on i j)) 4096) s.sizes.stations
+      && all_below (λ i. nat_le (s.handed (on i j)) 4096) s.sizes.stations
 
   abbrev pub station_sound : House B → ℕ → Bool
   station_sound s p =

@@ -74,10 +74,10 @@ below_all c ranged = below_whole c pairs ranged (λ i a b. absurd (omega arith))
 pub stopped : {A : Type 0} (a : A) (fits : Counts → Bool) → Lowers fits → (c : Counts) (k : ℕ) → k < pairs
     → fits (below c k) ≡ true → fits (below c (k + 1)) ≡ false → verdict fits c a ≡ refuses (pair_at k)
 stopped a fits lowers c k within so_far no_more =
-    let up-to-below : (n : ℕ) → up_to c n ≡ below c (n + 1) = λ n. fun_ext (λ p. grind (arith, nat_tests)) in
+    let up_to_below : (n : ℕ) → up_to c n ≡ below c (n + 1) = λ n. fun_ext (λ p. grind (arith, nat_tests)) in
     let misfits : fits c ≡ false = false_since _ (λ e. both_ways _ no_more (lowers c (below c (k + 1)) (λ p i. below_le c (k + 1) p) e)) in
     cond-false _ _ _ misfits
-    ∙ ap refuses (first_misfit_is fits c k within (ap fits (up-to-below k) ∙ no_more)
+    ∙ ap refuses (first_misfit_is fits c k within (ap fits (up_to_below k) ∙ no_more)
     (λ n l. lowers (below c k) (up_to c n) (λ p i. grind (arith, nat_tests)) so_far))
 
 -- d holds the counts of c below place k, and p, the pair there, is raised to its count in c

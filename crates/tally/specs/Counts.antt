@@ -10,7 +10,7 @@
 --   counted        how many these are
 --   count_of       what a list of pairs with their counts counts: 0 for a pair that it does not hold
 --   none_above     no count of a pair in range is above a number
-use Rattle.std.specs.Prelude.{ℕ, zero, suc, max, Bool, true, cond, ◌&&◌, leb, List, [], ◌∷◌, length, ◌==◌, nat_le}
+use Rattle.std.specs.Prelude.{ℕ, zero, suc, max, Bool, true, cond, ◌&&◌, List, [], ◌∷◌, length, ◌==◌, nat_le}
 use Rattle.tally.specs.declared.pair.Pair.{Pair}
 use Rattle.tally.specs.Pairs.{pairs, same, rank, pair_at}
 
@@ -51,4 +51,4 @@ every f zero = true
 every f (suc n) = f n && every f n
 
 unfoldable pub none_above : ℕ → Counts → Bool
-none_above m c = every (λ n. leb (c (pair_at n)) m) pairs
+none_above m c = every (λ n. nat_le (c (pair_at n)) m) pairs

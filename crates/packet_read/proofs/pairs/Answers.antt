@@ -19,13 +19,13 @@ returns-in_err-least g c =
     let here = c.loop-i.reader.place in
     let counts = g.T.Tally.counts c.loop-i.tag in
     let same = ap (λ r. r.now) c.loop-i.invariant.0 in
-    let no-pair = c.in_err-least.ensures in
+    let no_pair = c.in_err-least.ensures in
     let p = err_from_is_err_and c.from_residual.result c.from_residual.ensures.1 in
     rw (p.1, p.2)
     (record {
-      same = no-pair.same ∙ c.loop-i.invariant.0;
+      same = no_pair.same ∙ c.loop-i.invariant.0;
       asks = sym (going_stops fits bs c.args.count c.loop-i.i here c.loop-i.least counts c.loop-i.invariant.1 c.loop-i-test.true _
-          (ap (λ b. first_no (pair_questions fits b here c.loop-i.least counts)) (sym same) ∙ sym no-pair.asks));
+          (ap (λ b. first_no (pair_questions fits b here c.loop-i.least counts)) (sym same) ∙ sym no_pair.asks));
       reads = tt;
     })
 

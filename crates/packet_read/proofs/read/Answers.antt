@@ -38,9 +38,9 @@ returns-in_err-tag g c =
     let opens = sym c.in_ok-place.ensures.asks in
     let made = c.in_ok-head.ensures in
     let same = ap (λ r. r.now) made.same in
-    let no-pair = (λ i. first_no (pairs_questions fits (sym same i) 0 (sym made.reads.1 i))) ∙ sym c.in_err-tag.ensures.asks in
+    let no_pair = (λ i. first_no (pairs_questions fits (sym same i) 0 (sym made.reads.1 i))) ∙ sym c.in_err-tag.ensures.asks in
     let p = err_from_is_err_and c.from_residual-in_err-tag.result c.from_residual-in_err-tag.ensures.1 in
-    rw (p.1, p.2) (record { answers = sym (ap (λ o. answered o (content kind lawful fits bs)) (no_pairs kind lawful fits bs opens (sym made.asks) _ no-pair)); packs = tt })
+    rw (p.1, p.2) (record { answers = sym (ap (λ o. answered o (content kind lawful fits bs)) (no_pairs kind lawful fits bs opens (sym made.asks) _ no_pair)); packs = tt })
 
 pub returns-in_err-body : goal.returns-in_err-body
 returns-in_err-body g c =
@@ -78,14 +78,14 @@ returns g c =
     let same = ap (λ r. r.now) made.same in
     let same_after = ap (λ r. r.now) tagged.same ∙ same in
     let all_pairs = (λ i. first_no (pairs_questions fits (sym same i) 0 (sym made.reads.1 i))) ∙ sym tagged.asks in
-    let all-body = ap (λ b. first_no (body_questions lawful b)) (sym same_after) ∙ sym bodied.asks in
+    let all_body = ap (λ b. first_no (body_questions lawful b)) (sym same_after) ∙ sym bodied.asks in
     let ranged = ap in_range made.reads.0 ∙ (headed kind bs (sym made.asks)).ranged in
-    let accepted = from_body kind lawful fits bs opens (sym made.asks) all_pairs ∙ all-body in
-    let message-is = says g.T.Tally.counts g.B.Body.bytes kind lawful fits bs c.in-Some.message c.in_ok-head.head c.in_ok-tag.tag c.in_ok-body.body
+    let accepted = from_body kind lawful fits bs opens (sym made.asks) all_pairs ∙ all_body in
+    let message_is = says g.T.Tally.counts g.B.Body.bytes kind lawful fits bs c.in-Some.message c.in_ok-head.head c.in_ok-tag.tag c.in_ok-body.body
     c.in-Some.ensures ranged made.reads.0
     (tagged.reads.0 ∙ (λ i. counts_in (same i) (made.reads.1 i)))
     (bodied.reads ∙ ap body_in same_after) in
     record {
-      answers = ap Ok message-is ∙ sym (ap (λ o. answered o (content kind lawful fits bs)) accepted);
-      packs = ap (packet_bytes kind) message-is ∙ packs_back bs (λ i. (c.type_inv.packet i).fits) kind lawful fits accepted;
+      answers = ap Ok message_is ∙ sym (ap (λ o. answered o (content kind lawful fits bs)) accepted);
+      packs = ap (packet_bytes kind) message_is ∙ packs_back bs (λ i. (c.type_inv.packet i).fits) kind lawful fits accepted;
     }

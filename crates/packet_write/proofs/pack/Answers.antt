@@ -35,12 +35,12 @@ returns g c =
     let room : length packet ≤ length out = omega (arith, answer, c.if-out-length.false) in
     let head : c.place.new.out ≡ placed 0 (head_bytes kind m.head (counted m.counts)) out =
     c.place.ensures ∙ ap (λ bs. placed 0 bs out) (c.head_bytes.ensures ∙ (λ i. head_bytes (c.kind.ensures i) (c.head.ensures i) (pairs i))) in
-    let with-pairs : c.place_pairs-at.new.out ≡ placed 13 (pairs_part kind m) c.place.new.out =
+    let with_pairs : c.place_pairs-at.new.out ≡ placed 13 (pairs_part kind m) c.place.new.out =
     c.place_pairs-at.ensures.writes ∙ ap (λ t. placed 13 (flat_map pair_bytes (counted_pairs (counts t))) c.place.new.out) c.tag-2.ensures in
-    let after-pairs : c.place_pairs-at.result ≡ 13 + 4 * counted m.counts = c.place_pairs-at.ensures.past ∙ ap (λ t. 13 + 4 * counted (counts t)) c.tag-2.ensures in
-    let with-body : c.place_body.new.out ≡ placed (13 + 4 * counted m.counts) (length m.body ∷ m.body) c.place_pairs-at.new.out =
-    c.place_body.ensures ∙ (λ i. placed (after-pairs i) (length (bytes (c.body-2.ensures i)) ∷ bytes (c.body-2.ensures i)) c.place_pairs-at.new.out) in
-    let written = with-body ∙ ap (placed (13 + 4 * counted m.counts) (length m.body ∷ m.body)) (with-pairs ∙ ap (placed 13 (pairs_part kind m)) head) ∙ written_in_parts kind m out room in
+    let after_pairs : c.place_pairs-at.result ≡ 13 + 4 * counted m.counts = c.place_pairs-at.ensures.past ∙ ap (λ t. 13 + 4 * counted (counts t)) c.tag-2.ensures in
+    let with_body : c.place_body.new.out ≡ placed (13 + 4 * counted m.counts) (length m.body ∷ m.body) c.place_pairs-at.new.out =
+    c.place_body.ensures ∙ (λ i. placed (after_pairs i) (length (bytes (c.body-2.ensures i)) ∷ bytes (c.body-2.ensures i)) c.place_pairs-at.new.out) in
+    let written = with_body ∙ ap (placed (13 + 4 * counted m.counts) (length m.body ∷ m.body)) (with_pairs ∙ ap (placed 13 (pairs_part kind m)) head) ∙ written_in_parts kind m out room in
     let front : take (14 + 4 * c.counted-pairs.result + c.size.result) c.place_body.new.out ≡ packet =
     (λ i. take (answer i) ((written ∙ cond-true _ _ _ (le-leb _ _ room)) i)) ∙ take_at packet (drop (length packet) out) (length packet) refl in
     let carries : Lawful g.B.Body.lawful g.T.Tally.fits m =

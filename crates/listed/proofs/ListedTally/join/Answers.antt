@@ -15,13 +15,13 @@ use Rattle.listed.proofs.ListedTally.join.Goals as goal
 joined : (t u : Listed) (xs ys merged front behind : List (Pair × ℕ)) (n : ℕ) → xs ≡ listed t → ys ≡ listed u → n ≤ length merged
     → take n merged ≡ counted_pairs (larger (count_of xs) (count_of ys)) → front ≡ take (n - 0) merged
     → Kept (take n (front ++ behind)) (larger (count_of (listed t)) (count_of (listed u)))
-joined t u xs ys merged front behind n is-t is-u within lists written =
+joined t u xs ys merged front behind n is_t is_u within lists written =
     let e : front ≡ take n merged = written ∙ ap (λ m. take m merged) (omega arith) in
     kept (larger (count_of (listed t)) (count_of (listed u)))
     (λ p o. omega (arith, in_order_ranged (listed t) t.ordered p o, in_order_ranged (listed u) u.ordered p o))
     (bounded_larger 8191 (count_of (listed t)) (count_of (listed u)) t.low u.low)
     (take n (front ++ behind))
-    (take_at front behind n (ap length e ∙ length-take-le n merged within) ∙ e ∙ lists ∙ (λ i. counted_pairs (larger (count_of (is-t i)) (count_of (is-u i)))))
+    (take_at front behind n (ap length e ∙ length-take-le n merged within) ∙ e ∙ lists ∙ (λ i. counted_pairs (larger (count_of (is_t i)) (count_of (is_u i)))))
 
 pub invariant_of-self : goal.invariant_of-self
 invariant_of-self c =

@@ -38,16 +38,16 @@ loop-i-preserved c =
     let second = c.in_ok-low.ensures in
     let room : i < length bytes = omega (arith, c.loop-i-test.true, c.loop-i.invariant.0, c.requires) in
     let high_is : high ≡ b / 16 = omega (arith, second.0) in
-    let low-is : low ≡ b % 16 = omega (arith, second.0) in
+    let low_is : low ≡ b % 16 = omega (arith, second.0) in
     let digit : take (2 * i + 1) digits ≡ take (2 * i) digits ++ get_or digits (2 * i) 0 ∷ [] = take_more digits (2 * i) 0 (omega (arith, c.loop-i-test.true)) in
-    let digit-more : take (2 * i + 1 + 1) digits ≡ take (2 * i + 1) digits ++ get_or digits (2 * i + 1) 0 ∷ [] = take_more digits (2 * i + 1) 0 (omega (arith, c.loop-i-test.true)) in
+    let digit_more : take (2 * i + 1 + 1) digits ≡ take (2 * i + 1) digits ++ get_or digits (2 * i + 1) 0 ∷ [] = take_more digits (2 * i + 1) 0 (omega (arith, c.loop-i-test.true)) in
     let on : 2 * (i + 1) ≡ 2 * i + 1 + 1 = omega arith in (
       length-set _ _ _ ∙ c.loop-i.invariant.0,
       ap (λ k. take k digits) on
-          ∙ digit-more
+          ∙ digit_more
           ∙ ap (λ l. l ++ get_or digits (2 * i + 1) 0 ∷ []) digit
           ∙ append_assoc (take (2 * i) digits) (get_or digits (2 * i) 0 ∷ []) (get_or digits (2 * i + 1) 0 ∷ [])
-          ∙ (λ j. c.loop-i.invariant.1 j ++ ((first.1 ∙ ap hex_digit high_is) j ∷ (second.1 ∙ ap hex_digit low-is) j ∷ []))
+          ∙ (λ j. c.loop-i.invariant.1 j ++ ((first.1 ∙ ap hex_digit high_is) j ∷ (second.1 ∙ ap hex_digit low_is) j ∷ []))
           ∙ flat_map_more byte_text [] (take i bytes) b
           ∙ ap hex_text (sym (take_more_set bytes i b room)),
       subst (AllByRecursion (λ b. b < 256)) (sym (take_more_set bytes i b room)) (All-push (λ b. b < 256) (take i bytes) b c.loop-i.invariant.2 (omega (arith, first.0, second.0))),

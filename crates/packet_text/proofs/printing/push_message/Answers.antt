@@ -34,12 +34,12 @@ returns g c =
     let before = string_bytes c.args.out.now in
     let head = head_text m.head (counted m.counts) in
     let pairs = flat_map pair_text (counted_pairs m.counts) in
-    let with-head : string_bytes c.push_head.new.out ≡ before ++ head =
+    let with_head : string_bytes c.push_head.new.out ≡ before ++ head =
     c.in_ok-push_head.ensures
     ∙ (λ i. before ++ head_text (c.head.ensures i) ((c.counted.ensures ∙ ap (λ t. counted (counts t)) c.tag.ensures) i)) in
-    let with-pairs : string_bytes c.push_pairs.new.out ≡ string_bytes c.push_head.new.out ++ pairs =
+    let with_pairs : string_bytes c.push_pairs.new.out ≡ string_bytes c.push_head.new.out ++ pairs =
     c.in_ok-push_pairs.ensures ∙ ap (λ t. string_bytes c.push_head.new.out ++ flat_map pair_text (counted_pairs (counts t))) c.tag-2.ensures in
-    let with-body : string_bytes c.print.new.out ≡ string_bytes c.push_pairs.new.out ++ text m.body =
+    let with_body : string_bytes c.print.new.out ≡ string_bytes c.push_pairs.new.out ++ text m.body =
     c.in_ok-print.ensures ∙ ap (λ b. string_bytes c.push_pairs.new.out ++ text (bytes b)) c.body.ensures in
     let fits = room kind m (g.met.B.Body.short c.args.message.now.body) in
     let answer : Ok c.in-Ok.length ≡ Ok (length packet) = c.in-Ok.ensures.answers ∙ cond-true _ _ _ (le-leb _ _ fits) in
@@ -49,8 +49,8 @@ returns g c =
     let hex = hex_text packet in
     let r = c.push_hex.result in
     let end = string_bytes c.push_hex.new.out in
-    let with-hex = subst (λ bs. IfOk r (λ _. end ≡ string_bytes c.write.new.self ++ hex_text bs)) packed c.push_hex.ensures in
-    let from-space = made_added r (string_bytes c.print.new.out) (codes " ") hex _ end c.in_ok-write.ensures.bytes with-hex in
-    let from_body = made_added r (string_bytes c.push_pairs.new.out) (text m.body) (codes " " ++ hex) _ end with-body from-space in
-    let from_pairs = made_added r (string_bytes c.push_head.new.out) pairs (text m.body ++ (codes " " ++ hex)) _ end with-pairs from_body in
-    made_added r before head (pairs ++ (text m.body ++ (codes " " ++ hex))) _ end with-head from_pairs
+    let with_hex = subst (λ bs. IfOk r (λ _. end ≡ string_bytes c.write.new.self ++ hex_text bs)) packed c.push_hex.ensures in
+    let from_space = made_added r (string_bytes c.print.new.out) (codes " ") hex _ end c.in_ok-write.ensures.bytes with_hex in
+    let from_body = made_added r (string_bytes c.push_pairs.new.out) (text m.body) (codes " " ++ hex) _ end with_body from_space in
+    let from_pairs = made_added r (string_bytes c.push_head.new.out) pairs (text m.body ++ (codes " " ++ hex)) _ end with_pairs from_body in
+    made_added r before head (pairs ++ (text m.body ++ (codes " " ++ hex))) _ end with_head from_pairs
