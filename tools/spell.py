@@ -5,8 +5,8 @@ usage: python3 tools/spell.py [--list]      at the top of the repository, once, 
 
 A name that is defined in crates/*/specs or crates/*/proofs, or bound inside a proof there, and that has a dash, gets
 underscores in its place, or, if it begins with a capital letter, no dash and a capital for each word. It is turned wherever
-it stands as a whole word in .rt and .antt files, head comments too, but not behind a dot, where a name is a step's. Names
-of goals, which the toolchain makes, and names of the library stay.
+it stands as a whole word in .rt and .antt files, head comments too; behind a dot, where a bound name can't stand, only a
+defined one is turned. Names of goals, which the toolchain makes, and names of the library stay.
 --list prints what would be turned, and names that would fall together, and writes nothing.
 """
 import glob
@@ -67,9 +67,9 @@ def main(argv):
         print("\n".join(f"{n} -> {names[n]}" for n in sorted(names)))
         print("left, of goals:", " ".join(sorted(n for n in defined if "-" in n and n not in names)))
         return
-    word = re.compile(r"(?<![^\s(){}\[\],;:«»`⟦⟧@\"])(" + WORD + r")")
+    word = re.compile(r"(?<![^\s(){}\[\].,;:«»`⟦⟧@\"])(" + WORD + r")")
     for p, text in texts.items():
-        new = word.sub(lambda m: names.get(m.group(1), m.group(1)), text)
+        new = word.sub(lambda m: names.get(m.group(1), m.group(1)) if m.group(1) in defined or text[m.start() - 1] != "." else m.group(1), text)
         if new != text:
             with open(p, "w", encoding="utf-8") as f:
                 f.write(new)
