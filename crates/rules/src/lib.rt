@@ -22,8 +22,8 @@ pub use place::{Notice, Place, Stage};
 impl From<StationFault> for HouseFault {
     ghost from_gives = { λ f h. h ≡ FaultStation f };
 
-    fn from(fault: StationFault) -> HouseFault {
-        HouseFault::Station(fault)
+    fn from(refusal: StationFault) -> HouseFault {
+        HouseFault::Station(refusal)
     }
 }
 
