@@ -1,5 +1,5 @@
 // What the handsets' rows, their unread lists and their back lists may name and hold.
-ghost use Rattle.std.specs.Prelude.{◌≡◌, ◌+◌, ◌*◌, ◌<◌, ◌≤◌, leb, length, nat_le};
+ghost use Rattle.std.specs.Prelude.{◌≡◌, ◌+◌, ◌*◌, ◌<◌, ◌≤◌, length, nat_le};
 ghost use Rattle.rules.specs.Functions.{all_below, all_in};
 ghost use Rattle.rules.specs.Sound.{on, book, place_in, name_in, names_sound, handset_sound};
 ghost use Rattle.tables.specs.Columns.{part};
@@ -112,7 +112,7 @@ fn handed_in<T: Copy>(rows: &[HandsetRow<T>], station: u16, handset: u16) -> boo
 // Is its handed count of every station?
 fn handed_sound<T: Copy>(rows: &[HandsetRow<T>], stations: u16, handset: u16) -> bool
     requires { stations ≤ 8 }
-    ensures { result ≡ all_below (λ i. leb (handed_of rows.now (on i handset)) 4096) stations }
+    ensures { result ≡ all_below (λ i. nat_le (handed_of rows.now (on i handset)) 4096) stations }
 {
     for station in 0..stations {
         if !handed_in(rows, station, handset) {

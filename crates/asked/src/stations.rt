@@ -3,7 +3,7 @@ ghost use Rattle.std.specs.Prelude.{◌≡◌, ℕ, ◌+◌, ◌*◌, ◌<◌, �
 ghost use Rattle.rules.specs.Functions.{all_below, all_in, how_many, bit};
 ghost use Rattle.rules.specs.Places.{leaves};
 ghost use Rattle.rules.specs.Sound.{passed_in, notice_in, station_sound};
-ghost use Rattle.rules.specs.Steps.{notice as no-notice};
+ghost use Rattle.rules.specs.Steps.{notice as no_notice};
 ghost use Rattle.tables.specs.Columns.{part};
 ghost use Rattle.tables.specs.View.{notice_lengths, passed_of, places_of, view};
 ghost use Rattle.tables.specs.Shape.{Shaped};
@@ -88,7 +88,7 @@ fn notices_in(notices: &[Notice], handsets: u16, stations: u16) -> bool
 // Do those in the filled places of the station's queue?
 fn queue_in(queues: &[Notice], station: u16, filled: u16, handsets: u16, stations: u16) -> bool
     requires { station * handsets + filled ≤ length queues.now }
-    ensures { result ≡ all_in (notice_in handsets stations) (part (no-notice 0 0) station handsets filled queues.now) }
+    ensures { result ≡ all_in (notice_in handsets stations) (part (no_notice 0 0) station handsets filled queues.now) }
 {
     let start = station as usize * handsets as usize;
     notices_in(&queues[start..start + filled as usize], handsets, stations)

@@ -1,6 +1,6 @@
 -- What a granted call knows of the tables before it changes them.
 --
---   Registers, Releases, Settles, Sends, Gets   of the call of that name
+--   Registers, Releases, Settles   of the call of that name
 use Rattle.std.specs.Prelude.{◌≡◌, ℕ, ◌<◌, length}
 use Rattle.tally.specs.Counts.{Counts}
 use Rattle.rules.specs.declared.place.Notice.{Notice}

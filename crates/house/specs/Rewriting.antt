@@ -18,28 +18,28 @@ use Rattle.tables.specs.declared.rows.RollRow.{RollRow}
 
 module _ {T : Type 0} where
   abbrev pub moved : Place → HandsetRow T → HandsetRow T
-  moved p x = record { place = p; handed = x.handed; carried = x.carried; unread = x.unread; back = x.back }
+  moved p x = record x { place = p }
 
   abbrev pub carrying : T → HandsetRow T → HandsetRow T
-  carrying t x = record { place = x.place; handed = x.handed; carried = t; unread = x.unread; back = x.back }
+  carrying t x = record x { carried = t }
 
   abbrev pub handing : ℕ → HandsetRow T → HandsetRow T
-  handing i x = record { place = x.place; handed = slice_set x.handed i (suc (slice_index x.handed i)); carried = x.carried; unread = x.unread; back = x.back }
+  handing i x = record x { handed = slice_set x.handed i (suc (slice_index x.handed i)) }
 
   abbrev pub unread_as : ℕ → HandsetRow T → HandsetRow T
-  unread_as n x = record { place = x.place; handed = x.handed; carried = x.carried; unread = n; back = x.back }
+  unread_as n x = record x { unread = n }
 
   abbrev pub back_as : ℕ → HandsetRow T → HandsetRow T
-  back_as n x = record { place = x.place; handed = x.handed; carried = x.carried; unread = x.unread; back = n }
+  back_as n x = record x { back = n }
 
   abbrev pub tallied : T → StationRow T → StationRow T
-  tallied t x = record { tally = t; notices = x.notices; passed = x.passed }
+  tallied t x = record x { tally = t }
 
   abbrev pub passing : ℕ → ℕ → StationRow T → StationRow T
-  passing j n x = record { tally = x.tally; notices = x.notices; passed = slice_set x.passed j (Some n) }
+  passing j n x = record x { passed = slice_set x.passed j (Some n) }
 
   abbrev pub noticing : ℕ → StationRow T → StationRow T
-  noticing n x = record { tally = x.tally; notices = n; passed = x.passed }
+  noticing n x = record x { notices = n }
 
 abbrev pub staged : {T B : Type 0} → Stage → RollRow T B → RollRow T B
-staged s x = record { station = x.station; sender = x.sender; addressee = x.addressee; tag = x.tag; body = x.body; stage = s }
+staged s x = record x { stage = s }

@@ -3,8 +3,8 @@
 --   ripe             every station's handed count for the addressee is at least the tag's count (the field's word is
 --                    deliverable)
 --   shape_questions  about the numbers of the house and the lengths of its tables
---   sound-question   about what the tables name and hold
 --   own_questions    those of each call itself
+--   common           the refusal by the questions that every step is put first, or none
 --   refusal          the refusal of a call on a house, or none
 --   after_send, after_join, after_read, after_settle   the counts that a call would leave at its station
 --   fit              do counts fit the kind of tally? The tally's own refusal is told.
@@ -95,7 +95,7 @@ module _ {B : Type 0} where
         (NoHandset, nat_lt j s.sizes.handsets) ∷ (NotOnWay, is_on_way (s.place j))
         ∷ fit fits (after_settle s (station_of (s.place j)) j) ∷ []
 
-  -- the questions that every step is put first
+  -- about the shape, and then about what the tables name and hold
   abbrev pub common : House B → Option HouseFault
   common s = or_next (first_no (shape_questions s.sizes)) (first_no ((Tables, sound s) ∷ []))
 

@@ -8,177 +8,34 @@ use Rattle.rules.specs.House.{Row, House}
 
 module _ {B : Type 0} where
   abbrev pub with_used : ℕ → House B → House B
-  with_used f s = record {
-    sizes = s.sizes;
-    used = f;
-    counts = s.counts;
-    notices = s.notices;
-    passed = s.passed;
-    place = s.place;
-    handed = s.handed;
-    carried = s.carried;
-    unread = s.unread;
-    back = s.back;
-    rows = s.rows;
-    stage = s.stage;
-  }
+  with_used f s = record s { used = f }
 
   abbrev pub with_counts : (ℕ → Counts) → House B → House B
-  with_counts f s = record {
-    sizes = s.sizes;
-    used = s.used;
-    counts = f;
-    notices = s.notices;
-    passed = s.passed;
-    place = s.place;
-    handed = s.handed;
-    carried = s.carried;
-    unread = s.unread;
-    back = s.back;
-    rows = s.rows;
-    stage = s.stage;
-  }
+  with_counts f s = record s { counts = f }
 
   abbrev pub with_notices : (ℕ → List Notice) → House B → House B
-  with_notices f s = record {
-    sizes = s.sizes;
-    used = s.used;
-    counts = s.counts;
-    notices = f;
-    passed = s.passed;
-    place = s.place;
-    handed = s.handed;
-    carried = s.carried;
-    unread = s.unread;
-    back = s.back;
-    rows = s.rows;
-    stage = s.stage;
-  }
+  with_notices f s = record s { notices = f }
 
   abbrev pub with_passed : (ℕ → ℕ → Option ℕ) → House B → House B
-  with_passed f s = record {
-    sizes = s.sizes;
-    used = s.used;
-    counts = s.counts;
-    notices = s.notices;
-    passed = f;
-    place = s.place;
-    handed = s.handed;
-    carried = s.carried;
-    unread = s.unread;
-    back = s.back;
-    rows = s.rows;
-    stage = s.stage;
-  }
+  with_passed f s = record s { passed = f }
 
   abbrev pub with_place : (ℕ → Place) → House B → House B
-  with_place f s = record {
-    sizes = s.sizes;
-    used = s.used;
-    counts = s.counts;
-    notices = s.notices;
-    passed = s.passed;
-    place = f;
-    handed = s.handed;
-    carried = s.carried;
-    unread = s.unread;
-    back = s.back;
-    rows = s.rows;
-    stage = s.stage;
-  }
+  with_place f s = record s { place = f }
 
   abbrev pub with_handed : Counts → House B → House B
-  with_handed f s = record {
-    sizes = s.sizes;
-    used = s.used;
-    counts = s.counts;
-    notices = s.notices;
-    passed = s.passed;
-    place = s.place;
-    handed = f;
-    carried = s.carried;
-    unread = s.unread;
-    back = s.back;
-    rows = s.rows;
-    stage = s.stage;
-  }
+  with_handed f s = record s { handed = f }
 
   abbrev pub with_carried : (ℕ → Counts) → House B → House B
-  with_carried f s = record {
-    sizes = s.sizes;
-    used = s.used;
-    counts = s.counts;
-    notices = s.notices;
-    passed = s.passed;
-    place = s.place;
-    handed = s.handed;
-    carried = f;
-    unread = s.unread;
-    back = s.back;
-    rows = s.rows;
-    stage = s.stage;
-  }
+  with_carried f s = record s { carried = f }
 
   abbrev pub with_unread : (ℕ → List ℕ) → House B → House B
-  with_unread f s = record {
-    sizes = s.sizes;
-    used = s.used;
-    counts = s.counts;
-    notices = s.notices;
-    passed = s.passed;
-    place = s.place;
-    handed = s.handed;
-    carried = s.carried;
-    unread = f;
-    back = s.back;
-    rows = s.rows;
-    stage = s.stage;
-  }
+  with_unread f s = record s { unread = f }
 
   abbrev pub with_back : (ℕ → List ℕ) → House B → House B
-  with_back f s = record {
-    sizes = s.sizes;
-    used = s.used;
-    counts = s.counts;
-    notices = s.notices;
-    passed = s.passed;
-    place = s.place;
-    handed = s.handed;
-    carried = s.carried;
-    unread = s.unread;
-    back = f;
-    rows = s.rows;
-    stage = s.stage;
-  }
+  with_back f s = record s { back = f }
 
   abbrev pub with_rows : (ℕ → Row B) → House B → House B
-  with_rows f s = record {
-    sizes = s.sizes;
-    used = s.used;
-    counts = s.counts;
-    notices = s.notices;
-    passed = s.passed;
-    place = s.place;
-    handed = s.handed;
-    carried = s.carried;
-    unread = s.unread;
-    back = s.back;
-    rows = f;
-    stage = s.stage;
-  }
+  with_rows f s = record s { rows = f }
 
   abbrev pub with_stage : (ℕ → Stage) → House B → House B
-  with_stage f s = record {
-    sizes = s.sizes;
-    used = s.used;
-    counts = s.counts;
-    notices = s.notices;
-    passed = s.passed;
-    place = s.place;
-    handed = s.handed;
-    carried = s.carried;
-    unread = s.unread;
-    back = s.back;
-    rows = s.rows;
-    stage = f;
-  }
+  with_stage f s = record s { stage = f }
