@@ -1,133 +1,88 @@
 // The fields of a packet, one after the other: each method answers a field and goes past it, or a fault.
-ghost use Rattle.std.specs.Prelude.{◌≡◌, ℕ, ◌+◌, ◌-◌, ◌*◌, ◌<◌, ◌≤◌, not, ◌&&◌, List, [], ◌∷◌, length, take, drop, IfOk, OnOk, ◌==◌, nat_lt};
+ghost use Rattle.std.specs.Prelude.{◌≡◌, ◌+◌, ◌-◌, ◌*◌, ◌<◌, ◌≤◌, if◌then◌else◌, Bool, [], ◌∷◌, length, take, drop, MatchResult, ◌==◌};
+ghost use Rattle.std.specs.Fn.{FnOnceReturnsAtMut};
 ghost use Rattle.questions.specs.Asking.{first_no};
+ghost use Rattle.packet.specs.declared.fault.Fault.TheVariants.{Field};
 ghost use Rattle.packet.specs.Faults.{refused};
-ghost use Rattle.packet.specs.Layout.{byte_at, word_at};
-ghost use Rattle.packet.specs.Reading.{enough};
-ghost use Rattle.packet_read.specs.Fields.{packet, asked};
+ghost use Rattle.packet.specs.Layout.{byte_at, pair_from, count_from};
+ghost use Rattle.packet_read.specs.Fields.{packet, asked, next_byte, next_word, needs, Takes};
 
 use crate::reader::Reader;
 use packet::Fault;
 use tally::Pair;
 
 impl<'a> Reader<'a> {
-    // Are there so many bytes more?
-    fn need(&self, size: usize) -> Result<(), Fault>
-        requires { size ≤ 255 }
-        ensures asks { asked result ≡ first_no (enough (self.now.place + size) (packet self.now) ∷ []) }
-        ensures there { OnOk result (self.now.place + size ≤ length (packet self.now)) }
+    // So many bytes.
+    pub(crate) fn bytes(&mut self, size: u8) -> Result<&'a [u8], Fault>
+        ensures { Takes self.old self.new result size (needs size self.old ∷ []) (λ b. b.now ≡ take size (drop self.old.place (packet self.old))) }
     {
-        if self.packet.len() - self.place < size {
-            return Err(Fault::Short(self.packet.len()));
-        }
-        Ok(())
+        let (field, _) = self.packet[self.place..]
+            .split_at_checked(size as usize)
+            .ok_or(Fault::Short(self.packet.len()))?;
+        self.place += size as usize;
+        Ok(field)
     }
 
     // One byte.
     pub(crate) fn byte(&mut self) -> Result<u8, Fault>
-        ensures same { self.new.packet ≡ self.old.packet }
-        ensures asks { asked result ≡ first_no (enough (self.old.place + 1) (packet self.old) ∷ []) }
-        ensures reads { IfOk result (λ b. (b ≡ byte_at (packet self.old) self.old.place) × (self.new.place ≡ self.old.place + 1)) }
+        ensures { Takes self.old self.new result 1 (needs 1 self.old ∷ []) (λ b. b ≡ next_byte self.old) }
     {
-        self.need(1)?;
-        let b = self.packet[self.place];
-        self.place += 1;
-        Ok(b)
+        let field = self.bytes(1)?;
+        Ok(field[0])
     }
 
     // A 16-bit number.
     pub(crate) fn word(&mut self) -> Result<u16, Fault>
-        ensures same { self.new.packet ≡ self.old.packet }
-        ensures asks { asked result ≡ first_no (enough (self.old.place + 2) (packet self.old) ∷ []) }
-        ensures reads { IfOk result (λ n. (n ≡ word_at (packet self.old) self.old.place) × (self.new.place ≡ self.old.place + 2)) }
+        ensures { Takes self.old self.new result 2 (needs 2 self.old ∷ []) (λ n. n ≡ next_word self.old) }
     {
-        self.need(2)?;
-        let n = self.packet[self.place] as u16 * 256 + self.packet[self.place + 1] as u16;
-        self.place += 2;
-        Ok(n)
+        let field = self.bytes(2)?;
+        Ok(u16::from_be_bytes([field[0], field[1]]))
     }
 
-    // A station, a handset or another number of one byte, which must be below a limit.
-    pub(crate) fn below(&mut self, limit: u8) -> Result<u8, Fault>
-        ensures same { self.new.packet ≡ self.old.packet }
-        ensures asks { asked result ≡ first_no (enough (self.old.place + 1) (packet self.old)
-            ∷ (refused 35 self.old.place, nat_lt (byte_at (packet self.old) self.old.place) limit) ∷ []) }
-        ensures reads { IfOk result (λ b. (b ≡ byte_at (packet self.old) self.old.place) × (self.new.place ≡ self.old.place + 1)) }
+    // A pair with its count: four bytes.
+    pub(crate) fn pair(&mut self) -> Result<(Pair, u16), Fault>
+        ensures { Takes self.old self.new result 4 (needs 4 self.old ∷ [])
+            (λ x. (x.0 ≡ pair_from (packet self.old) self.old.place) × (x.1 ≡ count_from (packet self.old) self.old.place)) }
     {
-        let place = self.place;
-        let b = self.byte()?;
-        if b >= limit {
-            return Err(Fault::Field(place));
-        }
-        Ok(b)
+        let field = self.bytes(4)?;
+        let pair = Pair {
+            station: field[0],
+            handset: field[1],
+        };
+        Ok((pair, u16::from_be_bytes([field[2], field[3]])))
     }
 
-    // The addressee, another handset than the sender.
-    pub(crate) fn addressee(&mut self, sender: u8) -> Result<u8, Fault>
-        ensures same { self.new.packet ≡ self.old.packet }
-        ensures asks { asked result ≡ first_no (enough (self.old.place + 1) (packet self.old)
-            ∷ (refused 35 self.old.place, nat_lt (byte_at (packet self.old) self.old.place) 32 && not (sender == byte_at (packet self.old) self.old.place)) ∷ []) }
-        ensures reads { IfOk result (λ b. (b ≡ byte_at (packet self.old) self.old.place) × (self.new.place ≡ self.old.place + 1)) }
+    // A number that is read and then asked about; where the answer is no, the fault of a field at its place.
+    pub(crate) fn field<N, R, A>(&mut self, read: R, accept: A) -> Result<N, Fault>
+    where
+        N: Copy,
+        R: FnOnce(&mut Reader<'a>) -> Result<N, Fault>,
+        A: FnOnce(N) -> bool,
+        requires reads { R.IsAlwaysCallable read }
+        requires asks { A.IsAlwaysCallable accept }
+        ensures { (r : _) × FnOnceReturnsAtMut R.FnOnce read self.old r self.new
+            × MatchResult r
+            (λ n. (yes : Bool) × A.post accept n yes × (result ≡ (if yes then Ok n else Err (Field self.old.place))))
+            (λ fault. result ≡ Err fault) }
     {
         let place = self.place;
-        let b = self.byte()?;
-        if b >= 32 || sender == b {
-            return Err(Fault::Field(place));
+        let number = read(self)?;
+        if accept(number) {
+            Ok(number)
+        } else {
+            Err(Fault::Field(place))
         }
-        Ok(b)
-    }
-
-    // The name, which must be below 4,096.
-    pub(crate) fn name(&mut self) -> Result<u16, Fault>
-        ensures same { self.new.packet ≡ self.old.packet }
-        ensures asks { asked result ≡ first_no (enough (self.old.place + 2) (packet self.old)
-            ∷ (refused 35 self.old.place, nat_lt (word_at (packet self.old) self.old.place) 4096) ∷ []) }
-        ensures reads { IfOk result (λ n. (n ≡ word_at (packet self.old) self.old.place) × (self.new.place ≡ self.old.place + 2)) }
-    {
-        let place = self.place;
-        let n = self.word()?;
-        if n >= 4096 {
-            return Err(Fault::Field(place));
-        }
-        Ok(n)
     }
 
     // The kind of the body, which must be the one wanted.
     pub(crate) fn kind(&mut self, wanted: u8) -> Result<(), Fault>
         requires { self.old.place ≡ 5 }
-        ensures same { self.new.packet ≡ self.old.packet }
-        ensures asks { asked result ≡ first_no (enough 6 (packet self.old) ∷ (refused 34 5, (byte_at (packet self.old) 5 == wanted)) ∷ []) }
-        ensures reads { OnOk result (self.new.place ≡ 6) }
+        ensures { Takes self.old self.new result 1 (needs 1 self.old ∷ (refused 34 5, (byte_at (packet self.old) 5 == wanted)) ∷ []) (λ _. Unit {0}) }
     {
         if self.byte()? != wanted {
             return Err(Fault::Kind);
         }
         Ok(())
-    }
-
-    // A pair with its count: four bytes.
-    pub(crate) fn pair(&mut self) -> Result<(Pair, u16), Fault>
-        ensures same { self.new.packet ≡ self.old.packet }
-        ensures asks { asked result ≡ first_no (enough (self.old.place + 4) (packet self.old) ∷ []) }
-        ensures reads { IfOk result (λ x. (x.0.station ≡ byte_at (packet self.old) self.old.place) × (x.0.handset ≡ byte_at (packet self.old) (self.old.place + 1)) × (x.1 ≡ word_at (packet self.old) (self.old.place + 2)) × (self.new.place ≡ self.old.place + 4)) }
-    {
-        self.need(4)?;
-        let station = self.byte()?;
-        let handset = self.byte()?;
-        let count = self.word()?;
-        Ok((Pair { station, handset }, count))
-    }
-
-    // So many bytes.
-    pub(crate) fn bytes(&mut self, len: u8) -> Result<&'a [u8], Fault>
-        ensures same { self.new.packet ≡ self.old.packet }
-        ensures asks { asked result ≡ first_no (enough (self.old.place + len) (packet self.old) ∷ []) }
-        ensures reads { IfOk result (λ b. (b.now ≡ take len (drop self.old.place (packet self.old))) × (self.new.place ≡ self.old.place + len)) }
-    {
-        self.need(len as usize)?;
-        let from = self.place;
-        self.place = from + len as usize;
-        Ok(&self.packet[from..self.place])
     }
 
     // Is that the end?

@@ -14,7 +14,7 @@ ghost use Rattle.packet.specs.Layout.{pair_from, pair_place, counts_in, pairs_to
 ghost use Rattle.packet.specs.Messages.{meaning};
 ghost use Rattle.packet.specs.Packing.{packet_bytes};
 ghost use Rattle.packet.specs.Reading.{opening_questions, head_questions, with_pair, pair_questions, pairs_questions, body_questions, reading};
-ghost use Rattle.packet_read.specs.Fields.{packet, asked, placed, outcome};
+ghost use Rattle.packet_read.specs.Fields.{packet, asked, Takes, placed, outcome};
 
 use body::Body;
 use packet::{Fault, Head, Message};
@@ -26,34 +26,16 @@ mod reader;
 
 use reader::Reader;
 
-// Are these the bytes of the mark NRS?
-fn is_mark(a: u8, b: u8, c: u8) -> bool
-    ensures { result ≡ (a == 78 && (b == 82 && c == 83)) }
-{
-    a == b'N' && b == b'R' && c == b'S'
-}
-
 // The mark and the version; the place after them.
 fn opening(bytes: &[u8]) -> Result<usize, Fault>
     ensures asks { asked result ≡ first_no (opening_questions bytes.now) }
     ensures past { IfOk result (λ place. (place ≡ 5) × (5 ≤ length bytes.now)) }
 {
     match bytes {
-        [a, b, c, high, low, rest @ ..] => {
-            if !is_mark(*a, *b, *c) {
-                return Err(Fault::Mark);
-            }
-            if *high as u16 * 256 + *low as u16 != 1 {
-                return Err(Fault::Version);
-            }
-            Ok(bytes.len() - rest.len())
-        }
-        [a, b, c, ..] => {
-            if !is_mark(*a, *b, *c) {
-                return Err(Fault::Mark);
-            }
-            Err(Fault::Short(bytes.len()))
-        }
+        [b'N', b'R', b'S', 0, 1, rest @ ..] => Ok(bytes.len() - rest.len()),
+        [b'N', b'R', b'S', _, _, ..] => Err(Fault::Version),
+        [b'N', b'R', b'S', ..] => Err(Fault::Short(bytes.len())),
+        [_, _, _, ..] => Err(Fault::Mark),
         _ => Err(Fault::Short(bytes.len())),
     }
 }
@@ -61,15 +43,14 @@ fn opening(bytes: &[u8]) -> Result<usize, Fault>
 // The fields of one size after the version: the body's kind, the head, and the number of pairs.
 fn head<B: Body>(reader: &mut Reader) -> Result<(Head, u16), Fault>
     requires { reader.old.place ≡ 5 }
-    ensures same { reader.new.packet ≡ reader.old.packet }
-    ensures asks { asked result ≡ first_no (head_questions B.Body.kind (packet reader.old)) }
-    ensures reads { IfOk result (λ x. (x.0 ≡ head_in (packet reader.old)) × (x.1 ≡ pairs_told (packet reader.old)) × (reader.new.place ≡ 13)) }
+    ensures { Takes reader.old reader.new result 8 (head_questions B.Body.kind (packet reader.old))
+        (λ x. (x.0 ≡ head_in (packet reader.old)) × (x.1 ≡ pairs_told (packet reader.old))) }
 {
     reader.kind(B::kind())?;
-    let station = reader.below(8)?;
-    let sender = reader.below(32)?;
-    let addressee = reader.addressee(sender)?;
-    let name = reader.name()?;
+    let station = reader.field(Reader::byte, |n| n < 8)?;
+    let sender = reader.field(Reader::byte, |n| n < 32)?;
+    let addressee = reader.field(Reader::byte, |n| n < 32 && sender != n)?;
+    let name = reader.field(Reader::word, |n| n < 4096)?;
     let pairs = reader.word()?;
     Ok((
         Head {
@@ -102,24 +83,20 @@ fn raise_at<T: Tally>(tag: &mut T, place: usize, pair: Pair, count: u16) -> Resu
     ensures answers { result ≡ placed place (carried (raising T.fits (T.counts tag.old) pair count)) }
     ensures leaves { OnOk result (T.counts tag.new ≡ raised (T.counts tag.old) pair count) }
 {
-    match station::raise(tag, pair, count) {
-        Ok(()) => Ok(()),
-        Err(fault) => Err(Misfit { place, fault }),
-    }
+    station::raise(tag, pair, count).map_err(|fault| Misfit { place, fault })
 }
 
 // Is the pair in range, at a place of the order or after it, and does it count 1 to 8,191?
-fn rises_from(least: u16, pair: Pair, count: u16) -> bool
+fn rises_from(least: usize, pair: Pair, count: u16) -> bool
     ensures { result ≡ (inside pair && (nat_le least (rank pair) && (nat_le 1 count && nat_le count 8191))) }
 {
-    pair.in_range() && least as usize <= pair.rank() && 1 <= count && count <= 8191
+    pair.in_range() && least <= pair.rank() && (1..=8191).contains(&count)
 }
 
 // The next pair, into the tag; the least place in the order that the one after it may have.
-fn one_pair<T: Tally>(reader: &mut Reader, tag: &mut T, least: u16) -> Result<u16, Fault>
-    ensures same { reader.new.packet ≡ reader.old.packet }
-    ensures asks { asked result ≡ first_no (pair_questions T.fits (packet reader.old) reader.old.place least (T.counts tag.old)) }
-    ensures reads { IfOk result (λ next. (next ≡ suc (rank (pair_from (packet reader.old) reader.old.place))) × (T.counts tag.new ≡ with_pair (packet reader.old) reader.old.place (T.counts tag.old)) × (reader.new.place ≡ reader.old.place + 4)) }
+fn one_pair<T: Tally>(reader: &mut Reader, tag: &mut T, least: usize) -> Result<usize, Fault>
+    ensures { Takes reader.old reader.new result 4 (pair_questions T.fits (packet reader.old) reader.old.place least (T.counts tag.old))
+        (λ next. (next ≡ suc (rank (pair_from (packet reader.old) reader.old.place))) × (T.counts tag.new ≡ with_pair (packet reader.old) reader.old.place (T.counts tag.old))) }
 {
     let place = reader.place;
     let (pair, count) = reader.pair()?;
@@ -127,19 +104,19 @@ fn one_pair<T: Tally>(reader: &mut Reader, tag: &mut T, least: u16) -> Result<u1
         return Err(Fault::Order(place));
     }
     raise_at(tag, place, pair, count)?;
-    Ok((pair.rank() + 1) as u16)
+    Ok(pair.rank() + 1)
 }
 
 // So many pairs, into a blank tally.
 fn pairs<T: Tally>(reader: &mut Reader, count: u16) -> Result<T, Fault>
     requires { reader.old.place ≡ 13 }
-    ensures same { reader.new.packet ≡ reader.old.packet }
-    ensures asks { asked result ≡ first_no (pairs_questions T.fits (packet reader.old) 0 count) }
-    ensures reads { IfOk result (λ tag. (T.counts tag ≡ counts_in (packet reader.old) count) × (reader.new.place ≡ pair_place count)) }
+    ensures { Takes reader.old reader.new result (4 * count) (pairs_questions T.fits (packet reader.old) 0 count)
+        (λ tag. T.counts tag ≡ counts_in (packet reader.old) count) }
 {
+    // A fold is no plainer: it would carry the tag and the least place together, and change the reader besides.
     let mut tag = T::blank();
     let mut least = 0;
-    for i in 0..count {
+    for _ in 0..count {
         least = one_pair(reader, &mut tag, least)?;
     }
     Ok(tag)
@@ -154,9 +131,7 @@ fn body<B: Body>(reader: &mut Reader) -> Result<B, Fault>
     let place = reader.place;
     let len = reader.byte()?;
     let told = reader.bytes(len)?;
-    let Some(body) = B::read(told) else {
-        return Err(Fault::Unlawful(place));
-    };
+    let body = B::read(told).ok_or(Fault::Unlawful(place))?;
     reader.end()?;
     Ok(body)
 }
@@ -172,8 +147,8 @@ pub fn read<T: Tally, B: Body>(packet: &[u8]) -> Result<Message<T, B>, Fault>
     let (head, count) = head::<B>(&mut reader)?;
     let tag = pairs(&mut reader, count)?;
     let body = body(&mut reader)?;
-    match Message::new(head, tag, body) {
-        Some(message) => Ok(message),
-        None => unreachable(),
-    }
+    let Some(message) = Message::new(head, tag, body) else {
+        unreachable()
+    };
+    Ok(message)
 }

@@ -3,7 +3,7 @@ use Rattle.packet_read.specs.Fields.{packet}
 use Rattle.packet_read.proofs.Going.{Going}
 use Rattle.packet_read.proofs.pairs.Given as goal
 
-abbrev pub invariant-loop-i : goal.invariant-loop-i
-invariant-loop-i g l =
+abbrev pub invariant-loop : goal.invariant-loop
+invariant-loop g l =
     (l.reader.packet ≡ l.initial.reader.packet)
-    × Going g.T.Tally.fits (packet l.initial.reader) l.count l.i l.reader.place l.least (g.T.Tally.counts l.tag)
+    × Going g.T.Tally.fits (packet l.initial.reader) l.count l.counter l.reader.place l.least (g.T.Tally.counts l.tag)

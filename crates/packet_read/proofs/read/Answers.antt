@@ -1,36 +1,16 @@
-use Rattle.std.proofs.Common.{◌≡◌, ℕ, Ok, sym, ap, ◌∙◌, arith}
+use Rattle.std.proofs.Common.{Ok, sym, ap, ◌∙◌}
 use Rattle.std.proofs.lemmas.Result.{err_from_is_err_and}
-use Rattle.std.proofs.lemmas.Bool.{cond-true}
 use Rattle.questions.specs.Asking.{first_no, answered}
 use Rattle.packet.specs.Heads.{in_range}
 use Rattle.packet.specs.Layout.{counts_in, body_in}
 use Rattle.packet.specs.Reading.{pairs_questions, body_questions, content}
-use Rattle.packet_read.proofs.Whole.{no_opening, no_head, no_pairs, from_body, headed, says}
+use Rattle.packet_read.proofs.Whole.{no_pairs, from_body, headed, says}
 use Rattle.packet.specs.Packing.{packet_bytes}
 use Rattle.packet_read.proofs.Packed.{packs_back}
 use Rattle.packet_read.proofs.read.Goals as goal
 
-pub returns-in_err-place : goal.returns-in_err-place
-returns-in_err-place g c =
-    let kind = g.B.Body.kind in
-    let lawful = g.B.Body.lawful in
-    let fits = g.T.Tally.fits in
-    let bs = c.args.packet.now in
-    let p = err_from_is_err_and c.from_residual.result c.from_residual.ensures.1 in
-    rw (p.1, p.2) (record { answers = sym (ap (λ o. answered o (content kind lawful fits bs)) (no_opening kind lawful fits bs _ (sym c.in_err-place.ensures.asks))); packs = tt })
-
-pub returns-in_err-head : goal.returns-in_err-head
-returns-in_err-head g c =
-    let kind = g.B.Body.kind in
-    let lawful = g.B.Body.lawful in
-    let fits = g.T.Tally.fits in
-    let bs = c.args.packet.now in
-    let opens = sym c.in_ok-place.ensures.asks in
-    let p = err_from_is_err_and c.from_residual-in_err-head.result c.from_residual-in_err-head.ensures.1 in
-    rw (p.1, p.2) (record { answers = sym (ap (λ o. answered o (content kind lawful fits bs)) (no_head kind lawful fits bs opens _ (sym c.in_err-head.ensures.asks))); packs = tt })
-
-pub returns-in_err-tag : goal.returns-in_err-tag
-returns-in_err-tag g c =
+pub returns-in_err-tag-clause-answers : goal.returns-in_err-tag-clause-answers
+returns-in_err-tag-clause-answers g c =
     let kind = g.B.Body.kind in
     let lawful = g.B.Body.lawful in
     let fits = g.T.Tally.fits in
@@ -40,10 +20,10 @@ returns-in_err-tag g c =
     let same = ap (λ r. r.now) made.same in
     let no_pair = (λ i. first_no (pairs_questions fits (sym same i) 0 (sym made.reads.1 i))) ∙ sym c.in_err-tag.ensures.asks in
     let p = err_from_is_err_and c.from_residual-in_err-tag.result c.from_residual-in_err-tag.ensures.1 in
-    rw (p.1, p.2) (record { answers = sym (ap (λ o. answered o (content kind lawful fits bs)) (no_pairs kind lawful fits bs opens (sym made.asks) _ no_pair)); packs = tt })
+    rw (p.1, p.2) (sym (ap (λ o. answered o (content kind lawful fits bs)) (no_pairs kind lawful fits bs opens (sym made.asks) _ no_pair)))
 
-pub returns-in_err-body : goal.returns-in_err-body
-returns-in_err-body g c =
+pub returns-in_err-body-clause-answers : goal.returns-in_err-body-clause-answers
+returns-in_err-body-clause-answers g c =
     let kind = g.B.Body.kind in
     let lawful = g.B.Body.lawful in
     let fits = g.T.Tally.fits in
@@ -55,15 +35,7 @@ returns-in_err-body g c =
     let all_pairs = (λ i. first_no (pairs_questions fits (sym same i) 0 (sym made.reads.1 i))) ∙ sym tagged.asks in
     let no_body = ap (λ b. first_no (body_questions lawful b)) (sym (ap (λ r. r.now) tagged.same ∙ same)) ∙ sym c.in_err-body.ensures.asks in
     let p = err_from_is_err_and c.from_residual-in_err-body.result c.from_residual-in_err-body.ensures.1 in
-    rw (p.1, p.2) (record { answers = sym (ap (λ o. answered o (content kind lawful fits bs)) (from_body kind lawful fits bs opens (sym made.asks) all_pairs ∙ no_body)); packs = tt })
-
-pub unreachable-requires : goal.unreachable-requires
-unreachable-requires g c =
-    let made = c.in_ok-head.ensures in
-    let ranged = ap in_range made.reads.0 ∙ (headed g.B.Body.kind c.args.packet.now (sym made.asks)).ranged in
-    let some = c.in-None.ensures ∙ cond-true _ _ _ ranged in
-    let z : ◌≡◌ {A = ℕ} 0 1 = cc in
-    omega arith
+    rw (p.1, p.2) (sym (ap (λ o. answered o (content kind lawful fits bs)) (from_body kind lawful fits bs opens (sym made.asks) all_pairs ∙ no_body)))
 
 pub returns : goal.returns
 returns g c =
@@ -83,7 +55,7 @@ returns g c =
     let accepted = from_body kind lawful fits bs opens (sym made.asks) all_pairs ∙ all_body in
     let message_is = says g.T.Tally.counts g.B.Body.bytes kind lawful fits bs c.in-Some.message c.in_ok-head.head c.in_ok-tag.tag c.in_ok-body.body
     c.in-Some.ensures ranged made.reads.0
-    (tagged.reads.0 ∙ (λ i. counts_in (same i) (made.reads.1 i)))
+    (tagged.reads ∙ (λ i. counts_in (same i) (made.reads.1 i)))
     (bodied.reads ∙ ap body_in same_after) in
     record {
       answers = ap Ok message_is ∙ sym (ap (λ o. answered o (content kind lawful fits bs)) accepted);
