@@ -24,7 +24,7 @@ pub enum Fault {
 }
 
 // Why a message is not packed.
-#[derive(Clone, Copy)]
+#[derive(Clone, Copy, Debug, PartialEq, Eq)]
 pub enum PackFault {
     // the buffer is shorter than the packet
     ShortBuffer,

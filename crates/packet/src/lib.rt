@@ -90,15 +90,15 @@ impl Fault {
         ensures { result ≡ (tells self).place }
     {
         match self {
-            Fault::Short(place) => place,
             Fault::Mark => 0,
             Fault::Version => 3,
             Fault::Kind => 5,
-            Fault::Field(place) => place,
-            Fault::Order(place) => place,
-            Fault::Counts(place, _) => place,
-            Fault::Unlawful(place) => place,
-            Fault::Trailing(place) => place,
+            Fault::Short(place)
+            | Fault::Field(place)
+            | Fault::Order(place)
+            | Fault::Counts(place, _)
+            | Fault::Unlawful(place)
+            | Fault::Trailing(place) => place,
         }
     }
 
