@@ -1,5 +1,5 @@
 -- What a change of the cells does to the counts.
-use Rattle.std.specs.Prelude.{◌≡◌, ℕ, ◌<◌, ◌≤◌, max, true, false, ◌≢◌, List, length, replicate, slice_index, slice_set, refl}
+use Rattle.std.specs.Prelude.{◌≡◌, ℕ, ◌<◌, ◌≤◌, max, true, false, ◌≢◌, List, length, replicate, slice_index, slice_set}
 use Rattle.std.proofs.Common.{sym, ap, subst, ◌∙◌, ⊎_elim, arith}
 use Rattle.std.proofs.Math.Path.{fun_ext}
 use Rattle.std.proofs.lemmas.List.{get_or-set_same, get_or-set_other, get_or-replicate}
@@ -41,14 +41,11 @@ module _ (xs : List ℕ) (p : Pair) (n : ℕ) (i : inside p ≡ true) where
       ∙ sym (cond-false _ _ _ s))
       (cases_Bool (same q p)))
 
-  pub cells_raised : length xs ≡ 256 → slice_index xs (rank p) < n → of_cells (slice_set xs (rank p) n) ≡ raised (of_cells xs) p n
-  cells_raised sized more =
-      raised_by (slice_set xs (rank p) n)
-      (get_or-set_same xs (rank p) n 0 (omega (arith, rank_below p i)) ∙ omega arith)
-      (λ k ne. get_or-set_other xs (rank p) k n 0 ne)
-
-  pub cells_kept : n ≤ slice_index xs (rank p) → of_cells xs ≡ raised (of_cells xs) p n
-  cells_kept less = raised_by xs (omega arith) (λ k ne. refl)
+  pub cells_raised : length xs ≡ 256 → (at : ℕ) → at ≡ rank p → (m : ℕ) → m ≡ max (slice_index xs at) n → of_cells (slice_set xs at m) ≡ raised (of_cells xs) p n
+  cells_raised sized at here m is =
+      raised_by (slice_set xs at m)
+      (ap (λ k. slice_index (slice_set xs at m) k) (sym here) ∙ get_or-set_same xs at m 0 (omega (arith, here, rank_below p i)) ∙ is ∙ ap (λ k. max (slice_index xs k) n) here)
+      (λ k ne. get_or-set_other xs at k m 0 (λ e. ne (e ∙ here)))
 
 pub cells_joined : (xs ys zs : List ℕ) → ((k : ℕ) → k < 256 → slice_index zs k ≡ max (slice_index xs k) (slice_index ys k)) → of_cells zs ≡ larger (of_cells xs) (of_cells ys)
 cells_joined xs ys zs h =

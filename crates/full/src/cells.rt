@@ -1,9 +1,8 @@
-ghost use Rattle.std.specs.Prelude.{◌≡◌, ℕ, ◌<◌, ◌≤◌, length, slice_index};
+ghost use Rattle.std.specs.Prelude.{◌≡◌, ℕ, ◌<◌, ◌≤◌, slice_index};
 
 // A count for every pair in range, station by station.
 #[derive(Clone, Copy)]
 pub struct Full {
     pub(crate) cells: [u16; 256],
-    ghost sized: { length cells ≡ 256 },
     ghost low: { (k : ℕ) → k < 256 → slice_index cells k ≤ 8191 },
 }

@@ -1,39 +1,43 @@
 // The kind of tally that keeps a count for every pair.
 #![tactic(auto)]
 
-ghost use Rattle.std.specs.Prelude.{◌≡◌, ℕ, ◌<◌, ◌≤◌, max, true, length, slice_index};
-ghost use Rattle.tally.specs.Pairs.{inside, rank};
-ghost use Rattle.full.specs.Cells.{of_cells, full_fits};
+ghost use Rattle.std.specs.Prelude.{◌≡◌, ℕ, ◌<◌, ◌≤◌, max, not, ◌==◌, slice_index};
+ghost use Rattle.std.specs.List.{position};
+ghost use Rattle.full.specs.Cells.{of_cells, place_of, full_fits};
 ghost use Rattle.full.specs.Laws.{cells_fit, few_fit, no_cell};
 ghost use Rattle.tally.proofs.Bounds.{bounded_lowered, bounded_at, bounded_from};
 
-use tally::{CountedPairs, PAIRS, Pair, Refusal, Tally};
+use tally::{CountedPairs, MOST, NotRaised, PAIRS, Pair, Refusal, Tally};
 
 mod cells;
 
 pub use cells::Full;
 
-// the largest count
-const MOST: u16 = 8191;
-
 // the place at which each station's row of cells starts
 const STARTS: [usize; 8] = [0, 32, 64, 96, 128, 160, 192, 224];
 
-fn place(pair: Pair) -> usize
-    requires { inside pair ≡ true }
-    ensures { result ≡ rank pair }
+// The place of a pair's cell; a pair out of range has none.
+fn place(pair: Pair) -> Option<usize>
+    ensures { result ≡ place_of pair }
 {
-    STARTS[pair.station as usize] + pair.handset as usize
+    pair.in_range()
+        .then(|| STARTS[pair.station as usize] + pair.handset as usize)
 }
 
 // Leaves the larger of two cells at each place.
 fn join_cells(cells: &mut [u16; 256], others: &[u16; 256])
-    ensures sized { length cells.new ≡ 256 }
-    ensures joined { (k : ℕ) → k < 256 → slice_index cells.new k ≡ max (slice_index cells.old k) (slice_index others.now k) }
+    ensures { (k : ℕ) → k < 256 → slice_index cells.new k ≡ max (slice_index cells.old k) (slice_index others.now k) }
 {
-    for place in 0..PAIRS {
-        cells[place] = u16::max(cells[place], others[place]);
+    for (place, cell) in cells.iter_mut().enumerate() {
+        *cell = u16::max(*cell, others[place]);
     }
+}
+
+// The place of the first cell that counts.
+fn first_counted(cells: &[u16]) -> Option<usize>
+    ensures { result ≡ position (λ n. not (n == 0)) cells.now }
+{
+    cells.iter().position(|count| *count != 0)
 }
 
 impl Tally for Full {
@@ -56,21 +60,16 @@ impl Tally for Full {
     }
 
     fn count(&self, pair: Pair) -> u16 {
-        if !pair.in_range() {
-            return 0;
-        }
-        self.cells[place(pair)]
+        place(pair).map_or(0, |at| self.cells[at])
     }
 
-    fn try_raise(&mut self, pair: Pair, number: u16) -> bool {
-        if !pair.in_range() || number > MOST {
-            return false;
+    fn try_raise(&mut self, pair: Pair, number: u16) -> Result<(), NotRaised> {
+        let at = place(pair).ok_or(NotRaised)?;
+        if number > MOST {
+            return Err(NotRaised);
         }
-        let at = place(pair);
-        if self.cells[at] < number {
-            self.cells[at] = number;
-        }
-        true
+        self.cells[at] = u16::max(self.cells[at], number);
+        Ok(())
     }
 
     // Two full tallies always fit together.
@@ -82,12 +81,8 @@ impl Tally for Full {
 
 impl CountedPairs for Full {
     fn next_counted(&self, from: Pair) -> Option<(Pair, u16)> {
-        for place in from.start()..PAIRS {
-            let count = self.cells[place];
-            if count != 0 {
-                return Some((Pair::at(place), count));
-            }
-        }
-        None
+        let start = usize::min(from.start(), PAIRS);
+        let at = start + first_counted(&self.cells[start..])?;
+        Some((Pair::at(at), self.cells[at]))
     }
 }

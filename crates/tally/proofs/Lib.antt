@@ -4,3 +4,4 @@ pub mod Misfits
 pub mod Building
 pub mod Listing
 pub mod Splitting
+pub mod Trying

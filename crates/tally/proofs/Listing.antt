@@ -3,13 +3,9 @@ use Rattle.std.proofs.Common.{◌≡◌, ℕ, zero, suc, ◌+◌, ◌-◌, ◌<�
 use Rattle.std.proofs.lemmas.Bool.{cond-true, cond-false, cond_both, cases_Bool, cases_lt, eqb-true, eqb-false, eq-eqb, ne_eqb, le-leb, lt-leb}
 use Rattle.tally.specs.declared.pair.Pair.{Pair}
 use Rattle.tally.specs.Pairs.{inside, pairs, rank, pair_at, start, after}
-use Rattle.tally.specs.Counts.{Counts, none, counted_from, counted_pairs, counted}
+use Rattle.tally.specs.Counts.{Counts, none, counted_from, counted_pairs, counted_on, counted}
 use Rattle.tally.specs.Answers.{first_from, next_counted}
 use Rattle.tally.proofs.Order.{inside_at, rank_at, rank_below, from_start, start_after}
-
--- the counted pairs from place k on
-unfoldable pub rest : Counts → ℕ → List (Pair × ℕ)
-rest c k = counted_from c k (pairs - k)
 
 -- the first of some pairs
 abbrev pub first : List (Pair × ℕ) → Option (Pair × ℕ)
@@ -17,43 +13,43 @@ first [] = None
 first (x ∷ xs) = Some x
 
 module _ (c : Counts) where
-  pub all_rest : counted_pairs c ≡ rest c 0
-  unfolding counted_pairs rest
+  pub all_rest : counted_pairs c ≡ counted_on c 0
+  unfolding counted_pairs counted_on
   all_rest = refl
 
-  pub rest_past : (k : ℕ) → pairs ≤ k → rest c k ≡ []
-  unfolding rest
+  pub rest_past : (k : ℕ) → pairs ≤ k → counted_on c k ≡ []
+  unfolding counted_on
   rest_past k h = let e : pairs - k ≡ 0 = omega arith in ap (counted_from c k) e
 
   -- one place on
-  rest_step : (k : ℕ) → k < pairs → rest c k ≡ cond (eqb (c (pair_at k)) 0) (rest c (k + 1)) ((pair_at k, c (pair_at k)) ∷ rest c (k + 1))
-  unfolding rest
+  rest_step : (k : ℕ) → k < pairs → counted_on c k ≡ cond (eqb (c (pair_at k)) 0) (counted_on c (k + 1)) ((pair_at k, c (pair_at k)) ∷ counted_on c (k + 1))
+  unfolding counted_on
   rest_step k h =
       let e : pairs - k ≡ suc (pairs - suc k) = omega arith in
       ap (counted_from c k) e
-      ∙ ap (λ j. cond (eqb (c (pair_at k)) 0) (rest c j) ((pair_at k, c (pair_at k)) ∷ rest c j)) (sym (add-one k))
+      ∙ ap (λ j. cond (eqb (c (pair_at k)) 0) (counted_on c j) ((pair_at k, c (pair_at k)) ∷ counted_on c j)) (sym (add-one k))
 
-  pub rest_here : (k : ℕ) → k < pairs → (c (pair_at k) ≡ 0 → ⊥) → rest c k ≡ (pair_at k, c (pair_at k)) ∷ rest c (k + 1)
+  pub rest_here : (k : ℕ) → k < pairs → (c (pair_at k) ≡ 0 → ⊥) → counted_on c k ≡ (pair_at k, c (pair_at k)) ∷ counted_on c (k + 1)
   rest_here k h some = rest_step k h ∙ cond-false _ _ _ (ne_eqb _ _ some)
 
-  pub rest_zero : (k : ℕ) → k < pairs → c (pair_at k) ≡ 0 → rest c k ≡ rest c (k + 1)
+  pub rest_zero : (k : ℕ) → k < pairs → c (pair_at k) ≡ 0 → counted_on c k ≡ counted_on c (k + 1)
   rest_zero k h z = rest_step k h ∙ cond-true _ _ _ (eq-eqb _ _ z)
 
   -- over d places that count nothing
-  skip : (d k : ℕ) → k + d ≤ pairs → ((i : ℕ) → k ≤ i → i < k + d → c (pair_at i) ≡ 0) → rest c k ≡ rest c (k + d)
-  skip zero k h zeros = ap (rest c) (sym (add-zero k))
+  skip : (d k : ℕ) → k + d ≤ pairs → ((i : ℕ) → k ≤ i → i < k + d → c (pair_at i) ≡ 0) → counted_on c k ≡ counted_on c (k + d)
+  skip zero k h zeros = ap (counted_on c) (sym (add-zero k))
   skip (suc d) k h zeros =
       rest_zero k (omega arith) (zeros k (omega arith) (omega arith))
       ∙ skip d (k + 1) (omega arith) (λ i a b. zeros i (omega arith) (omega arith))
-      ∙ ap (rest c) (omega arith)
+      ∙ ap (counted_on c) (omega arith)
 
-  pub rest_skip : (k m : ℕ) → k ≤ m → m ≤ pairs → ((i : ℕ) → k ≤ i → i < m → c (pair_at i) ≡ 0) → rest c k ≡ rest c m
-  rest_skip k m low high zeros = let e : k + (m - k) ≡ m = omega arith in skip (m - k) k (omega arith) (λ i a b. zeros i a (omega arith)) ∙ ap (rest c) e
+  pub rest_skip : (k m : ℕ) → k ≤ m → m ≤ pairs → ((i : ℕ) → k ≤ i → i < m → c (pair_at i) ≡ 0) → counted_on c k ≡ counted_on c m
+  rest_skip k m low high zeros = let e : k + (m - k) ≡ m = omega arith in skip (m - k) k (omega arith) (λ i a b. zeros i a (omega arith)) ∙ ap (counted_on c) e
 
   -- the next counted pair is the first from its start on
   module _ (p : Pair) where
     -- n places are left from k on
-    from_later : (n k : ℕ) → k + n ≡ pairs → start p ≤ k → first_from p (rest c k) ≡ first (rest c k)
+    from_later : (n k : ℕ) → k + n ≡ pairs → start p ≤ k → first_from p (counted_on c k) ≡ first (counted_on c k)
     from_later zero k e low = ap (first_from p) (rest_past k (omega arith)) ∙ sym (ap first (rest_past k (omega arith)))
     from_later (suc n) k e low =
         ⊎_elim
@@ -67,8 +63,8 @@ module _ (c : Counts) where
         (cases_Bool (eqb (c (pair_at k)) 0))
 
     -- m places before the start are passed over
-    from_earlier : (m k : ℕ) → k ≤ pairs → k + m ≡ start p → first_from p (rest c k) ≡ first (rest c (start p))
-    from_earlier zero k h e = from_later (pairs - k) k (omega arith) (omega arith) ∙ ap (λ i. first (rest c i)) (omega arith)
+    from_earlier : (m k : ℕ) → k ≤ pairs → k + m ≡ start p → first_from p (counted_on c k) ≡ first (counted_on c (start p))
+    from_earlier zero k h e = from_later (pairs - k) k (omega arith) (omega arith) ∙ ap (λ i. first (counted_on c i)) (omega arith)
     from_earlier (suc m) k h e =
         ⊎_elim
         (λ (l : k < pairs). ⊎_elim
@@ -80,7 +76,7 @@ module _ (c : Counts) where
         (λ (l : pairs ≤ k). ap (first_from p) (rest_past k l) ∙ sym (ap first (rest_past (start p) (omega arith))))
         (cases_lt k pairs)
 
-    pub next_is : next_counted c p ≡ first (rest c (start p))
+    pub next_is : next_counted c p ≡ first (counted_on c (start p))
     next_is = ap (first_from p) all_rest ∙ from_earlier (start p) 0 (omega arith) (omega arith)
 
 -- nothing is counted in a blank table
@@ -94,7 +90,7 @@ pub record Comes (c : Counts) (k : ℕ) (q : Pair) (n : ℕ) : Type 0 where
   pub is : n ≡ c q
   pub some : n ≡ 0 → ⊥
   pub between : (i : ℕ) → k ≤ i → i < rank q → c (pair_at i) ≡ 0
-  pub left : rest c k ≡ (q, n) ∷ rest c (rank q + 1)
+  pub left : counted_on c k ≡ (q, n) ∷ counted_on c (rank q + 1)
 
 some_pair : (a q : Pair) (b n : ℕ) → ◌≡◌ {A = Option (Pair × ℕ)} (Some (a, b)) (Some (q, n)) → (a ≡ q) × (b ≡ n)
 some_pair a q b n h = let e : ◌≡◌ {A = Pair × ℕ} (a, b) (q, n) = cc in (ap (λ z. z.0) e, ap (λ z. z.1) e)
@@ -104,7 +100,7 @@ never x h = let z : ◌≡◌ {A = ℕ} 0 1 = cc in absurd (omega arith)
 
 module _ (c : Counts) (q : Pair) (n : ℕ) where
   -- m places are left from k on
-  comes_by : (m k : ℕ) → k + m ≡ pairs → first (rest c k) ≡ Some (q, n) → Comes c k q n
+  comes_by : (m k : ℕ) → k + m ≡ pairs → first (counted_on c k) ≡ Some (q, n) → Comes c k q n
   comes_by zero k e h = never (q, n) (sym (ap first (rest_past c k (omega arith))) ∙ h)
   comes_by (suc m) k e h =
       ⊎_elim
@@ -133,11 +129,11 @@ module _ (c : Counts) (q : Pair) (n : ℕ) where
         is = sym x.1 ∙ ap c x.0;
         some = λ z0. counts (x.1 ∙ z0);
         between = λ i a b. absurd (omega (arith, r));
-        left = s ∙ (λ i. (x.0 i, x.1 i) ∷ rest c (k + 1)) ∙ ap (λ j. (q, n) ∷ rest c (j + 1)) (sym r);
+        left = s ∙ (λ i. (x.0 i, x.1 i) ∷ counted_on c (k + 1)) ∙ ap (λ j. (q, n) ∷ counted_on c (j + 1)) (sym r);
       })
       (cases_Bool (eqb (c (pair_at k)) 0))
 
-  pub comes_from : (k : ℕ) → first (rest c k) ≡ Some (q, n) → Comes c k q n
+  pub comes_from : (k : ℕ) → first (counted_on c k) ≡ Some (q, n) → Comes c k q n
   comes_from k h =
       ⊎_elim
       (λ (l : k < pairs). comes_by (pairs - k) k (omega arith) h)
@@ -153,11 +149,11 @@ first_none [] h = refl
 first_none (x ∷ xs) h = never x (sym h)
 
 -- where there is none, nothing is left
-pub comes_not : (c : Counts) (p : Pair) → next_counted c p ≡ None → rest c (start p) ≡ []
-comes_not c p h = first_none (rest c (start p)) (sym (next_is c p) ∙ h)
+pub comes_not : (c : Counts) (p : Pair) → next_counted c p ≡ None → counted_on c (start p) ≡ []
+comes_not c p h = first_none (counted_on c (start p)) (sym (next_is c p) ∙ h)
 
 -- n places are left from k on, and none counts
-zeros_by : (c : Counts) (n k : ℕ) → k + n ≡ pairs → rest c k ≡ [] → (i : ℕ) → k ≤ i → i < pairs → c (pair_at i) ≡ 0
+zeros_by : (c : Counts) (n k : ℕ) → k + n ≡ pairs → counted_on c k ≡ [] → (i : ℕ) → k ≤ i → i < pairs → c (pair_at i) ≡ 0
 zeros_by c zero k e h i a b = absurd (omega arith)
 zeros_by c (suc n) k e h i a b =
     ⊎_elim
@@ -169,7 +165,7 @@ zeros_by c (suc n) k e h i a b =
     (cases_Bool (eqb (c (pair_at k)) 0))
 
 -- where nothing is left from place k on, nothing is counted there
-pub zeros_from : (c : Counts) (k : ℕ) → rest c k ≡ [] → (i : ℕ) → k ≤ i → i < pairs → c (pair_at i) ≡ 0
+pub zeros_from : (c : Counts) (k : ℕ) → counted_on c k ≡ [] → (i : ℕ) → k ≤ i → i < pairs → c (pair_at i) ≡ 0
 zeros_from c k h i a b = zeros_by c (pairs - k) k (omega arith) h i a b
 
 -- lower counts, fewer counted pairs
@@ -204,7 +200,7 @@ counted_most c = at_most c 0 pairs
 
 -- from p the walk along the counted pairs comes to q with its count n, and goes on from r
 pub record Goes (c : Counts) (p q : Pair) (n : ℕ) (r : Pair) : Type 0 where
-  pub left : rest c (start p) ≡ (q, n) ∷ rest c (start r)
+  pub left : counted_on c (start p) ≡ (q, n) ∷ counted_on c (start r)
   pub later : start p < start r
   pub within : start r ≤ pairs
 
@@ -213,7 +209,7 @@ goes c p q n r next e =
     let x = comes c q n p next in
     let on : start r ≡ rank q + 1 = ap start e ∙ start_after q x.inn in
     record {
-      left = x.left ∙ ap (λ k. (q, n) ∷ rest c k) (sym on);
+      left = x.left ∙ ap (λ k. (q, n) ∷ counted_on c k) (sym on);
       later = omega (arith, on, x.from);
       within = omega (arith, on, rank_below q x.inn);
     }

@@ -5,10 +5,10 @@ use Rattle.std.proofs.lemmas.List.{append-nil}
 use Rattle.std.proofs.lemmas.Bool.{cond-true, cond-false, cond_both, cases_Bool, eqb-true, both_ways}
 use Rattle.tally.specs.declared.pair.Pair.{Pair}
 use Rattle.tally.specs.Pairs.{inside, pairs, same, rank, pair_at}
-use Rattle.tally.specs.Counts.{Counts, raised, counted_from, counted_pairs, count_of}
+use Rattle.tally.specs.Counts.{Counts, raised, counted_from, counted_pairs, counted_on, count_of}
 use Rattle.tally.proofs.Order.{inside_at, rank_at, at_rank, rank_below, not_same, same_is, same_self, false_since}
 use Rattle.tally.proofs.Building.{Ranged}
-use Rattle.tally.proofs.Listing.{rest, rest_here, rest_past, rest_skip}
+use Rattle.tally.proofs.Listing.{rest_here, rest_past, rest_skip}
 
 -- the counted pairs before place k
 abbrev pub before : Counts → ℕ → List (Pair × ℕ)
@@ -36,12 +36,12 @@ from_parts c k (suc m) n =
     [ true ↦ later | false ↦ ap (λ xs. (pair_at k, c (pair_at k)) ∷ xs) later ]
 
 -- tables that agree from a place on have the same counted pairs from there on
-pub rest_same : (c d : Counts) (k : ℕ) → ((i : ℕ) → k ≤ i → i < pairs → c (pair_at i) ≡ d (pair_at i)) → rest c k ≡ rest d k
-unfolding rest
+pub rest_same : (c d : Counts) (k : ℕ) → ((i : ℕ) → k ≤ i → i < pairs → c (pair_at i) ≡ d (pair_at i)) → counted_on c k ≡ counted_on d k
+unfolding counted_on
 rest_same c d k h = from_same c d k (pairs - k) (λ i a b. h i a (omega arith))
 
-pub parts : (c : Counts) (k : ℕ) → k ≤ pairs → counted_pairs c ≡ before c k ++ rest c k
-unfolding rest counted_pairs
+pub parts : (c : Counts) (k : ℕ) → k ≤ pairs → counted_pairs c ≡ before c k ++ counted_on c k
+unfolding counted_on counted_pairs
 parts c k h =
     let e : pairs ≡ k + (pairs - k) = omega arith in
     ap (counted_from c 0) e ∙ from_parts c 0 k (pairs - k) ∙ ap (λ j. before c k ++ counted_from c j (pairs - k)) (zero-add k)
@@ -54,7 +54,7 @@ module _ (c : Counts) (p : Pair) (i : inside p ≡ true) (n : ℕ) where
   elsewhere k h ne = cond-false _ _ _ (not_same (pair_at k) p (λ e. ne (sym (rank_at k h) ∙ e)))
 
   -- a raised pair stands between the counted pairs before it and those after it
-  pub raised_between : 0 < max (c p) n → counted_pairs (raised c p n) ≡ before c (rank p) ++ ((p, max (c p) n) ∷ rest c (rank p + 1))
+  pub raised_between : 0 < max (c p) n → counted_pairs (raised c p n) ≡ before c (rank p) ++ ((p, max (c p) n) ∷ counted_on c (rank p + 1))
   raised_between some =
       let low = rank_below p i in
       let at : pair_at (rank p) ≡ p = at_rank p i in
@@ -63,7 +63,7 @@ module _ (c : Counts) (p : Pair) (i : inside p ≡ true) (n : ℕ) where
       ∙ ap₂ ◌++◌
       (from_same (raised c p n) c 0 (rank p) (λ k a b. elsewhere k (omega arith) (λ e. omega arith)))
       (rest_here (raised c p n) (rank p) low (λ z. omega (arith, z, counts))
-      ∙ (λ j. (at j, counts j) ∷ rest (raised c p n) (rank p + 1))
+      ∙ (λ j. (at j, counts j) ∷ counted_on (raised c p n) (rank p + 1))
       ∙ ap (λ xs. (p, max (c p) n) ∷ xs)
       (rest_same (raised c p n) c (rank p + 1) (λ k a b. elsewhere k b (λ e. omega arith))))
 
@@ -73,7 +73,7 @@ module _ (c : Counts) (p : Pair) (i : inside p ≡ true) (n : ℕ) where
       let low = rank_below p i in
       let none : c p ≡ 0 = ap c (sym (at_rank p i)) ∙ zeros (rank p) (omega arith) low in
       let is : max (c p) n ≡ n = omega (arith, none) in
-      let past : (k : ℕ) → k ≤ pairs → rank p ≤ k → rest c k ≡ [] =
+      let past : (k : ℕ) → k ≤ pairs → rank p ≤ k → counted_on c k ≡ [] =
       λ k h l. rest_skip c k pairs h (omega arith) (λ j a b. zeros j (omega arith) b) ∙ rest_past c pairs (omega arith) in
       let all : counted_pairs c ≡ before c (rank p) =
       parts c (rank p) (omega arith) ∙ ap (λ xs. before c (rank p) ++ xs) (past (rank p) (omega arith) (omega arith)) ∙ append-nil _ in

@@ -5,11 +5,13 @@
 --   verdict       the answer of a call that would leave a table of counts: granted where they fit,
 --                 else a refusal that names the first misfit
 --   raises        whether a pair is in range and the counts with it raised to a number fit
+--   trying        the answer that says no more than that
 --   raising       the answer to raising a pair to a number; a pair out of range is named itself
 --   next_counted  the first counted pair at or after a given one, with its count
 use Rattle.std.specs.Prelude.{ℕ, zero, suc, Bool, cond, ◌&&◌, List, [], ◌∷◌, Some, None, Ok, Err, Option, Result}
 use Rattle.tally.specs.declared.pair.Pair.{Pair}
 use Rattle.tally.specs.declared.pair.Refusal.{Refusal}
+use Rattle.tally.specs.declared.pair.NotRaised.{NotRaised}
 use Rattle.tally.specs.Pairs.{inside, pairs, pair_at, at_or_after}
 use Rattle.tally.specs.Counts.{Counts, raised, up_to, counted_pairs}
 
@@ -29,6 +31,9 @@ verdict fits c a = cond (fits c) (Ok a) (refuses (first_misfit fits c))
 
 abbrev pub raises : (Counts → Bool) → Counts → Pair → ℕ → Bool
 raises fits c p n = inside p && fits (raised c p n)
+
+abbrev pub trying : (Counts → Bool) → Counts → Pair → ℕ → Result (Unit {0}) NotRaised
+trying fits c p n = cond (raises fits c p n) (Ok tt) (Err (record {}))
 
 abbrev pub raising : (Counts → Bool) → Counts → Pair → ℕ → Result (Unit {0}) Refusal
 raising fits c p n = cond (inside p) (verdict fits (raised c p n) tt) (refuses p)

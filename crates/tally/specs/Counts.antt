@@ -7,10 +7,11 @@
 --   larger         the larger of two counts at each pair
 --   up_to          the counts up to and with a place of the order, the later ones taken as 0
 --   counted_pairs  the pairs in range whose count is not 0, in order, each with its count
---   counted        how many these are
+--   counted_on     those of them that stand at a place of the order or after it
+--   counted        how many there are in all
 --   count_of       what a list of pairs with their counts counts: 0 for a pair that it does not hold
 --   none_above     no count of a pair in range is above a number
-use Rattle.std.specs.Prelude.{ℕ, zero, suc, max, Bool, true, cond, ◌&&◌, List, [], ◌∷◌, length, ◌==◌, nat_le}
+use Rattle.std.specs.Prelude.{ℕ, zero, suc, ◌-◌, max, Bool, true, cond, ◌&&◌, List, [], ◌∷◌, length, ◌==◌, nat_le}
 use Rattle.tally.specs.declared.pair.Pair.{Pair}
 use Rattle.tally.specs.Pairs.{pairs, same, rank, pair_at}
 
@@ -37,6 +38,9 @@ counted_from c k (suc n) =
 
 unfoldable pub counted_pairs : Counts → List (Pair × ℕ)
 counted_pairs c = counted_from c 0 pairs
+
+unfoldable pub counted_on : Counts → ℕ → List (Pair × ℕ)
+counted_on c k = counted_from c k (pairs - k)
 
 abbrev pub counted : Counts → ℕ
 counted c = length (counted_pairs c)

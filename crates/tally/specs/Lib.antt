@@ -1,3 +1,4 @@
 pub mod Pairs
 pub mod Counts
 pub mod Answers
+pub mod Walking

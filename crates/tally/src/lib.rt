@@ -4,15 +4,27 @@
 ghost use Rattle.std.specs.Prelude.{◌≡◌, ℕ, ◌≤◌, max, Bool, true, false, if◌then◌else◌, MatchBool, MatchResult};
 ghost use Rattle.tally.specs.declared.pair.Pair.{Pair};
 ghost use Rattle.tally.specs.Pairs.{inside, same, rank, pair_at, start, after};
-ghost use Rattle.tally.specs.Counts.{Counts, none, raised, larger, counted};
-ghost use Rattle.tally.specs.Answers.{verdict, raises, raising, next_counted};
+ghost use Rattle.tally.specs.Counts.{Counts, none, raised, larger, counted, counted_pairs};
+ghost use Rattle.tally.specs.Answers.{verdict, trying, raising, next_counted};
+ghost use Rattle.tally.specs.Walking.{ahead};
 
+mod counted;
 mod pair;
 
-pub use pair::{Pair, Refusal};
+pub use counted::Counted;
+pub use pair::{NotRaised, Pair, Refusal};
 
 // how many pairs are in range
 pub const PAIRS: usize = 256;
+
+// the first pair in order
+pub const FIRST: Pair = Pair {
+    station: 0,
+    handset: 0,
+};
+
+// the largest count that any kind takes
+pub const MOST: u16 = 8191;
 
 impl Pair {
     // Is the station below 8 and the handset below 32?
@@ -94,10 +106,10 @@ pub trait Tally: Copy {
     fn count(&self, pair: Pair) -> u16
         ensures { result ≡ counts self.now pair };
 
-    // Raises the pair's count to the number where that is larger, if the pair is in range and the counts then fit; says whether.
-    fn try_raise(&mut self, pair: Pair, number: u16) -> bool
-        ensures answers { result ≡ raises fits (counts self.old) pair number }
-        ensures leaves { MatchBool result (counts self.new ≡ raised (counts self.old) pair number) (self.new ≡ self.old) };
+    // Raises the pair's count to the number where that is larger, if the pair is in range and the counts then fit.
+    fn try_raise(&mut self, pair: Pair, number: u16) -> Result<(), NotRaised>
+        ensures answers { result ≡ trying fits (counts self.old) pair number }
+        ensures leaves { MatchResult result (λ _. counts self.new ≡ raised (counts self.old) pair number) (λ _. self.new ≡ self.old) };
 
     // The same, with the reason where it is refused.
     fn raise(&mut self, pair: Pair, number: u16) -> Result<(), Refusal>
@@ -107,7 +119,7 @@ pub trait Tally: Copy {
         if !pair.in_range() {
             return Err(Refusal { pair });
         }
-        if self.try_raise(pair, number) {
+        if self.try_raise(pair, number).is_ok() {
             return Ok(());
         }
         // The counts that it would leave are built up in order, to the first pair at which they no longer fit.
@@ -115,7 +127,7 @@ pub trait Tally: Copy {
         for place in 0..PAIRS {
             let at = Pair::at(place);
             let wanted = raised_count(at, self.count(at), pair, number);
-            if !built.try_raise(at, wanted) {
+            if built.try_raise(at, wanted).is_err() {
                 return Err(Refusal { pair: at });
             }
         }
@@ -149,15 +161,23 @@ pub trait CountedPairs: Tally {
     fn next_counted(&self, from: Pair) -> Option<(Pair, u16)>
         ensures { result ≡ next_counted (Self.Tally.counts self.now) from };
 
+    // The pairs whose count is not 0, in order, each with its count.
+    final fn pairs(&self) -> Counted<'_, Self>
+        ensures { ahead Self.Tally.counts result ≡ counted_pairs (Self.Tally.counts self.now) }
+    {
+        Counted {
+            tally: self,
+            from: FIRST,
+        }
+    }
+
     // How many pairs have a count that is not 0.
     fn counted(&self) -> u16
         ensures { result ≡ counted (Self.Tally.counts self.now) }
     {
+        // Not over `pairs`: a body that a kind may replace can't pass `Self` on to a function with this bound.
         let mut pairs = 0;
-        let mut from = Pair {
-            station: 0,
-            handset: 0,
-        };
+        let mut from = FIRST;
         while let Some((pair, _count)) = self.next_counted(from) {
             pairs += 1;
             from = pair.after();

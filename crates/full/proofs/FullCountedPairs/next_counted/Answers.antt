@@ -1,25 +1,24 @@
-use Rattle.std.proofs.Common.{Some, sym, ap, ◌∙◌}
-use Rattle.tally.proofs.Listing.{rest, first, rest_here, rest_zero, rest_past, next_is}
+use Rattle.std.proofs.Common.{◌≡◌, ◌+◌, ◌≤◌, slice_index, Some, length, sym, ap, ◌∙◌, rules}
+use Rattle.std.specs.List.{position}
+use Rattle.tally.proofs.Listing.{first, next_is}
 use Rattle.full.specs.Cells.{of_cells}
-use Rattle.full.proofs.Counting.{cell_at}
+use Rattle.full.proofs.Ahead.{counts, tail, none_ahead, some_ahead, from_least}
 use Rattle.full.proofs.FullCountedPairs.next_counted.Goals as goal
 
-pub returns-then-count-ne0 : goal.returns-then-count-ne0
-returns-then-count-ne0 c =
-    let counts = of_cells c.args.self.now.cells in
-    let here = cell_at c.args.self.now.cells c.loop-place.place c.loop-place-test.true in
-    let found = rest_here counts c.loop-place.place c.loop-place-test.true (λ z. c.if-count-ne0.true (sym here ∙ z)) in
-    (λ i. Some (c.at.ensures i, sym here i))
-    ∙ sym (next_is counts c.args.from ∙ ap (λ k. first (rest counts k)) (sym c.start-place.ensures) ∙ ap first (c.loop-place.invariant ∙ found))
-
-pub loop-place-preserved : goal.loop-place-preserved
-loop-place-preserved c =
-    let counts = of_cells c.args.self.now.cells in
-    let here = cell_at c.args.self.now.cells c.loop-place.place c.loop-place-test.true in
-    c.loop-place.invariant ∙ rest_zero counts c.loop-place.place c.loop-place-test.true (here ∙ c.if-count-ne0.false)
+pub returns-in_err-at : goal.returns-in_err-at
+returns-in_err-at c =
+    let xs = c.args.self.now.cells in
+    let sized : length xs ≡ 256 = search rules in
+    let m = c.min-start.result in
+    let within : m ≤ 256 = search rules in
+    c.from_residual.ensures
+    ∙ sym (next_is (of_cells xs) c.args.from ∙ ap first (from_least (of_cells xs) _ m (search rules) ∙ none_ahead xs sized m within (ap (position counts) (sym (tail xs sized m within)) ∙ sym c.first_counted.ensures ∙ c.in_err-at.was)))
 
 pub returns : goal.returns
 returns c =
-    let counts = of_cells c.args.self.now.cells in
-    sym (next_is counts c.args.from ∙ ap (λ k. first (rest counts k)) (sym c.start-place.ensures)
-    ∙ ap first (c.loop-place.invariant ∙ rest_past counts c.loop-place.place c.loop-place-test.false))
+    let xs = c.args.self.now.cells in
+    let sized : length xs ≡ 256 = search rules in
+    let m = c.min-start.result in
+    let within : m ≤ 256 = search rules in
+    (λ i. Some (c.at.ensures i, slice_index xs (m + c.in_ok-at.field-0)))
+    ∙ sym (next_is (of_cells xs) c.args.from ∙ ap first (from_least (of_cells xs) _ m (search rules) ∙ some_ahead xs sized m within _ (ap (position counts) (sym (tail xs sized m within)) ∙ sym c.first_counted.ensures ∙ c.in_ok-at.was)))

@@ -3,20 +3,13 @@ use Rattle.std.proofs.lemmas.Bool.{cond-true}
 use Rattle.tally.proofs.Bounds.{bounded_larger}
 use Rattle.full.specs.Cells.{of_cells}
 use Rattle.full.specs.Laws.{cells_fit}
-use Rattle.full.proofs.Counting.{cells_joined}
 use Rattle.full.proofs.FullTally.join.Goals as goal
 
-pub invariant_of-self : goal.invariant_of-self
-invariant_of-self c =
+pub returns-clause-answers : goal.returns-clause-answers
+returns-clause-answers c =
     let t = c.args.self.now in
     let u = c.args.other.now in
-    record { sized = c.join_cells.ensures.sized; low = λ k h. omega (arith, c.join_cells.ensures.joined k h, t.low k h, u.low k h) }
+    sym (cond-true _ _ _ (bounded_larger 8191 (of_cells t.cells) (of_cells u.cells) (cells_fit t.cells t.low) (cells_fit u.cells u.low)))
 
-pub returns : goal.returns
-returns c =
-    let t = c.args.self.now in
-    let u = c.args.other.now in
-    record {
-      answers = sym (cond-true _ _ _ (bounded_larger 8191 (of_cells t.cells) (of_cells u.cells) (cells_fit t.cells t.low) (cells_fit u.cells u.low)));
-      leaves = cells_joined t.cells u.cells c.join_cells.new.cells c.join_cells.ensures.joined;
-    }
+pub invariant_of-self : goal.invariant_of-self
+invariant_of-self c = record { low = λ k h. omega (arith, c.join_cells.ensures k h, c.args.self.now.low k h, c.args.other.now.low k h) }
