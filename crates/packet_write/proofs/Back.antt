@@ -5,10 +5,10 @@ use Rattle.std.proofs.lemmas.List.{drop_more, drop_all, drop-drop, get_or-drop, 
 use Rattle.std.proofs.lemmas.Bool.{and_parts, and_from, le-leb, eq-eqb}
 use Rattle.tally.specs.declared.pair.Pair.{Pair}
 use Rattle.tally.specs.Pairs.{inside, rank, pair_at}
-use Rattle.tally.specs.Counts.{Counts, raised, counted_pairs, counted}
+use Rattle.tally.specs.Counts.{Counts, raised, counted_pairs, counted_on, counted}
 use Rattle.tally.proofs.Order.{at_rank, rank_below}
 use Rattle.tally.proofs.Building.{below, below_none, below_skip, below_more, below_whole, below_le, Ranged, Lowers}
-use Rattle.tally.proofs.Listing.{rest, first, all_rest, Comes, comes_from, zeros_from}
+use Rattle.tally.proofs.Listing.{first, all_rest, Comes, comes_from, zeros_from}
 use Rattle.questions.specs.Asking.{answered}
 use Rattle.questions.proofs.Asked.{AllYes, no_no, yes_both}
 use Rattle.packet.specs.Heads.{in_range}
@@ -65,7 +65,7 @@ module _ (kind : ℕ) (lawful : List ℕ → Bool) (fits : Counts → Bool) (low
 
   -- i pairs are read: the others are left, and what was read is counted
   record ReadSoFar (i : ℕ) : Type 0 where
-    left : rest c (least bs i) ≡ drop i ps
+    left : counted_on c (least bs i) ≡ drop i ps
     counts : counts_in bs i ≡ below c (least bs i)
 
   read_none : ReadSoFar 0
@@ -110,7 +110,7 @@ module _ (kind : ℕ) (lawful : List ℕ → Bool) (fits : Counts → Bool) (low
     unfolding counts_in
     read_more =
         record {
-          left = ap (rest c) lowest ∙ ap (drop 1) (sym is_next.left ∙ so_far.left ∙ next) ∙ ap (λ k. drop k ps) (add-one i);
+          left = ap (counted_on c) lowest ∙ ap (drop 1) (sym is_next.left ∙ so_far.left ∙ next) ∙ ap (λ k. drop k ps) (add-one i);
           counts = with_it ∙ ap (below c) (sym lowest);
         }
 

@@ -1,13 +1,10 @@
 -- Bytes written one after the other over a buffer.
-use Rattle.std.proofs.Common.{◌≡◌, ℕ, ◌+◌, ◌-◌, ◌≤◌, List, [], ◌++◌, length, take, drop, sym, ap, ◌∙◌, append_assoc, add-zero, zero-add, arith}
+use Rattle.std.proofs.Common.{◌≡◌, ℕ, ◌+◌, ◌-◌, ◌≤◌, List, [], ◌++◌, length, take, drop, sym, ap, ◌∙◌, append_assoc, zero-add, arith}
 use borrow.Rule.Slice.PartMut.{put_mid}
-use Rattle.std.proofs.lemmas.List.{take-append-drop, take_at, drop_at, drop-drop, length-append, length-take-le, length-drop, take_rest, drop_all, append-nil}
+use Rattle.std.proofs.lemmas.List.{take_at, drop_at, drop-drop, length-append, length-take-le, length-drop, take_rest, drop_all, append-nil}
 use Rattle.std.proofs.lemmas.Bool.{cond-true, le-leb}
 use Rattle.body.specs.Bytes.{over}
 use Rattle.packet_write.specs.Writing.{placed}
-
-pub placed_none : (at : ℕ) (out : List ℕ) → out ≡ placed at [] out
-placed_none at out = sym (ap (λ k. take at out ++ drop k out) (add-zero at) ∙ take-append-drop at out)
 
 -- bs and then cs behind them
 pub placed_more : (at : ℕ) (bs cs out : List ℕ) → at + length bs ≤ length out → placed (at + length bs) cs (placed at bs out) ≡ placed at (bs ++ cs) out

@@ -1,36 +1,29 @@
 // Packing messages.
 #![tactic(auto)]
 
-ghost use Rattle.std.specs.Prelude.{◌≡◌, ℕ, ◌+◌, ◌*◌, ◌/◌, ◌%◌, ◌<◌, ◌≤◌, List, [], ◌∷◌, ◌++◌, length, take, IfOk, Ok as Read};
+ghost use Rattle.std.specs.Prelude.{◌≡◌, ℕ, ◌+◌, ◌*◌, ◌/◌, ◌%◌, ◌<◌, ◌≤◌, List, [], ◌∷◌, ◌++◌, length, take, IfOk, Ok};
 ghost use Rattle.std.specs.List.{flat_map};
 ghost use Rattle.tally.specs.Counts.{counted_pairs, counted};
 ghost use Rattle.body.specs.Bytes.{over};
 ghost use Rattle.packet.specs.Messages.{meaning};
 ghost use Rattle.packet.specs.Packing.{word_bytes, pair_bytes, packet_bytes};
 ghost use Rattle.packet.specs.Reading.{reading};
-ghost use Rattle.packet_write.specs.Writing.{packing, placed, head_bytes};
+ghost use Rattle.packet_write.specs.Writing.{packing, placed, Puts, head_bytes};
 
 use body::Body;
 use packet::{Head, Message, PackFault};
 use tally::{CountedPairs, Pair};
 
-// A 16-bit number as two bytes.
-fn high(n: u16) -> u8
-    ensures { result ≡ n / 256 }
-{
-    (n / 256) as u8
-}
+mod writer;
 
-fn low(n: u16) -> u8
-    ensures { result ≡ n % 256 }
-{
-    (n % 256) as u8
-}
+use writer::Writer;
 
 // The first thirteen bytes of a packet: up to the number of pairs.
 fn head_bytes(kind: u8, head: Head, pairs: u16) -> [u8; 13]
     ensures { result ≡ head_bytes kind head pairs }
 {
+    let [name_high, name_low] = head.name.to_be_bytes();
+    let [pairs_high, pairs_low] = pairs.to_be_bytes();
     [
         b'N',
         b'R',
@@ -41,10 +34,10 @@ fn head_bytes(kind: u8, head: Head, pairs: u16) -> [u8; 13]
         head.station,
         head.sender,
         head.addressee,
-        high(head.name),
-        low(head.name),
-        high(pairs),
-        low(pairs),
+        name_high,
+        name_low,
+        pairs_high,
+        pairs_low,
     ]
 }
 
@@ -52,43 +45,29 @@ fn head_bytes(kind: u8, head: Head, pairs: u16) -> [u8; 13]
 fn pair_bytes(pair: Pair, count: u16) -> [u8; 4]
     ensures { result ≡ pair_bytes (pair, count) }
 {
-    [pair.station, pair.handset, high(count), low(count)]
+    let [high, low] = count.to_be_bytes();
+    [pair.station, pair.handset, high, low]
 }
 
-// Writes some bytes over a buffer from a place on.
-fn place(out: &mut [u8], at: usize, bytes: &[u8])
-    requires { at + length bytes.now ≤ length out.old }
-    ensures { out.new ≡ placed at bytes.now out.old }
+// Writes the counted pairs.
+fn put_pairs<T: CountedPairs>(writer: &mut Writer, tag: &T)
+    requires { writer.old.place + 4 * counted (T.Tally.counts tag.now) ≤ length writer.old.out.now }
+    ensures { Puts writer.old writer.new (flat_map pair_bytes (counted_pairs (T.Tally.counts tag.now))) }
 {
-    out[at..at + bytes.len()].copy_from_slice(bytes);
-}
-
-// Writes the counted pairs from the thirteenth byte on; the place after them.
-fn place_pairs<T: CountedPairs>(out: &mut [u8], tag: &T) -> usize
-    requires { 13 + 4 * counted (T.Tally.counts tag.now) ≤ length out.old }
-    ensures past { result ≡ 13 + 4 * counted (T.Tally.counts tag.now) }
-    ensures writes { out.new ≡ placed 13 (flat_map pair_bytes (counted_pairs (T.Tally.counts tag.now))) out.old }
-{
-    let mut at = 13;
-    let mut from = Pair {
-        station: 0,
-        handset: 0,
-    };
-    while let Some((pair, count)) = tag.next_counted(from) {
-        place(out, at, &pair_bytes(pair, count));
-        at += 4;
-        from = pair.after();
+    for (pair, count) in tag.pairs() {
+        writer.put(&pair_bytes(pair, count));
     }
-    at
 }
 
 // Writes the body's length and the body.
-fn place_body<B: Body>(out: &mut [u8], at: usize, body: &B)
-    requires { at + 1 + length (B.bytes body.now) ≤ length out.old }
-    ensures { out.new ≡ placed at (length (B.bytes body.now) ∷ B.bytes body.now) out.old }
+fn put_body<B: Body>(writer: &mut Writer, body: &B)
+    requires { writer.old.place + 1 + length (B.bytes body.now) ≤ length writer.old.out.now }
+    ensures { Puts writer.old writer.new (length (B.bytes body.now) ∷ B.bytes body.now) }
 {
-    place(out, at, &[body.size()]);
-    let _ = body.write(&mut out[at + 1..]);
+    let size = body.size();
+    writer.put(&[size]);
+    let _ = body.write(&mut writer.out[writer.place..]);
+    writer.place += size as usize;
 }
 
 // Packs a message at the front of a buffer, and answers the packet's length. It is refused only where the buffer is too
@@ -99,15 +78,18 @@ pub fn pack<T: CountedPairs, B: Body>(
 ) -> Result<usize, PackFault>
     ensures answers { result ≡ packing (packet_bytes B.Body.kind (meaning T.Tally.counts B.Body.bytes message.now)) out.old }
     ensures leaves { out.new ≡ over (packet_bytes B.Body.kind (meaning T.Tally.counts B.Body.bytes message.now)) out.old }
-    ensures reads_back { IfOk result (λ n. reading B.Body.kind B.Body.lawful T.Tally.fits (take n out.new) ≡ Read (meaning T.Tally.counts B.Body.bytes message.now)) }
+    ensures reads_back { IfOk result (λ n. reading B.Body.kind B.Body.lawful T.Tally.fits (take n out.new) ≡ Ok (meaning T.Tally.counts B.Body.bytes message.now)) }
 {
-    let pairs = message.tag().counted();
-    let length = 14 + 4 * pairs as usize + message.body().size() as usize;
+    let tag = message.tag();
+    let body = message.body();
+    let pairs = tag.counted();
+    let length = 14 + 4 * pairs as usize + body.size() as usize;
     if out.len() < length {
         return Err(PackFault::ShortBuffer);
     }
-    place(out, 0, &head_bytes(B::kind(), message.head(), pairs));
-    let at = place_pairs(out, message.tag());
-    place_body(out, at, message.body());
+    let mut writer = Writer { out, place: 0 };
+    writer.put(&head_bytes(B::kind(), message.head(), pairs));
+    put_pairs(&mut writer, tag);
+    put_body(&mut writer, body);
     Ok(length)
 }
