@@ -1,7 +1,7 @@
 // Packets on the wire: what they carry, and why they are refused.
 #![tactic(auto)]
 
-ghost use Rattle.std.specs.Prelude.{◌≡◌, ℕ, if◌then◌else◌, Some, None};
+ghost use Rattle.std.specs.Prelude.{◌≡◌, if◌then◌else◌, Some, None};
 ghost use Rattle.std.specs.Option.{option_map};
 ghost use Rattle.packet.specs.declared.fault.Fault.{Fault as PacketFault};
 ghost use Rattle.packet.specs.Heads.{in_range};

@@ -1,5 +1,5 @@
 // The fields of a packet, one after the other: each method answers a field and goes past it, or a fault.
-ghost use Rattle.std.specs.Prelude.{◌≡◌, ◌+◌, ◌-◌, ◌*◌, ◌<◌, ◌≤◌, if◌then◌else◌, Bool, [], ◌∷◌, length, take, drop, MatchResult, ◌==◌};
+ghost use Rattle.std.specs.Prelude.{◌≡◌, ◌<◌, if◌then◌else◌, Bool, [], ◌∷◌, length, take, drop, MatchResult, ◌==◌};
 ghost use Rattle.std.specs.Fn.{FnOnceReturnsAtMut};
 ghost use Rattle.questions.specs.Asking.{first_no};
 ghost use Rattle.packet.specs.declared.fault.Fault.TheVariants.{Field};

@@ -1,16 +1,14 @@
 // Reading packets: which message a packet carries, or why it is refused.
 #![tactic(auto)]
 
-ghost use Rattle.std.specs.Prelude.{◌≡◌, ℕ, suc, ◌+◌, ◌-◌, ◌*◌, ◌/◌, ◌<◌, ◌≤◌, Bool, true, ◌&&◌, List, [], ◌∷◌, ◌++◌, length, IfOk, Some, OnOk, ◌==◌, nat_le};
-ghost use Rattle.std.specs.Option.{option_map};
-ghost use Rattle.tally.specs.declared.pair.Pair.{Pair as TallyPair};
+ghost use Rattle.std.specs.Prelude.{◌≡◌, suc, ◌+◌, ◌-◌, ◌*◌, ◌<◌, ◌≤◌, ◌&&◌, length, IfOk, Some, OnOk, nat_le};
 ghost use Rattle.tally.specs.Pairs.{inside, rank};
 ghost use Rattle.tally.specs.Counts.{raised};
 ghost use Rattle.tally.specs.Answers.{raising};
 ghost use Rattle.station.specs.Faults.{carried};
 ghost use Rattle.questions.specs.Asking.{first_no};
 ghost use Rattle.packet.specs.declared.fault.Fault.TheVariants.{Counts as FaultCounts};
-ghost use Rattle.packet.specs.Layout.{pair_from, pair_place, counts_in, pairs_told, body_place, body_in, head_in};
+ghost use Rattle.packet.specs.Layout.{pair_from, counts_in, pairs_told, body_place, body_in, head_in};
 ghost use Rattle.packet.specs.Messages.{meaning};
 ghost use Rattle.packet.specs.Packing.{packet_bytes};
 ghost use Rattle.packet.specs.Reading.{opening_questions, head_questions, with_pair, pair_questions, pairs_questions, body_questions, reading};

@@ -1,14 +1,14 @@
 // Packing messages.
 #![tactic(auto)]
 
-ghost use Rattle.std.specs.Prelude.{◌≡◌, ℕ, ◌+◌, ◌*◌, ◌/◌, ◌%◌, ◌<◌, ◌≤◌, List, [], ◌∷◌, ◌++◌, length, take, IfOk, Ok};
+ghost use Rattle.std.specs.Prelude.{◌≡◌, ◌+◌, ◌*◌, ◌≤◌, ◌∷◌, length, take, IfOk};
 ghost use Rattle.std.specs.List.{flat_map};
 ghost use Rattle.tally.specs.Counts.{counted_pairs, counted};
 ghost use Rattle.body.specs.Bytes.{over};
 ghost use Rattle.packet.specs.Messages.{meaning};
-ghost use Rattle.packet.specs.Packing.{word_bytes, pair_bytes, packet_bytes};
+ghost use Rattle.packet.specs.Packing.{pair_bytes, packet_bytes};
 ghost use Rattle.packet.specs.Reading.{reading};
-ghost use Rattle.packet_write.specs.Writing.{packing, placed, Puts, head_bytes};
+ghost use Rattle.packet_write.specs.Writing.{packing, Puts, head_bytes};
 
 use body::Body;
 use packet::{Head, Message, PackFault};
