@@ -1,4 +1,2 @@
-pub mod Adding
-pub mod Pairing
 pub mod Digits
 pub mod Lines

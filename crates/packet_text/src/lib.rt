@@ -4,24 +4,19 @@
 ghost use Rattle.std.specs.Prelude.{IfOk, string_bytes};
 ghost use Rattle.packet_text.specs.Lines.{Answers};
 
-use std::alloc::Global;
-use std::fmt;
+use std::alloc::{AllocError, Global};
 
 mod asking;
 mod line;
 mod printing;
 
 // The text that answers a line: what its packet says, why the packet is refused, or `bad`. It fails only for want of memory.
-pub fn answer(heap: Global, line: &[u8]) -> Result<String, fmt::Error>
+pub fn answer(heap: Global, line: &[u8]) -> Result<String, AllocError>
     ensures { IfOk result (λ text. Answers line.now (string_bytes text)) }
 {
-    let mut out = String::new(heap);
     let mut packet = [0; 2048];
     match asking::asked(line, &mut packet) {
-        Some((tally, body, length)) => {
-            printing::push_reply(&mut out, tally, body, &packet[..length])?;
-        }
-        None => write!(out, "bad")?,
+        Some((tally, body, length)) => printing::reply(heap, tally, body, &packet[..length]),
+        None => format!(in heap; "bad"),
     }
-    Ok(out)
 }

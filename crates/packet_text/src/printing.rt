@@ -1,91 +1,52 @@
-// What is printed of a packet. Each function adds to the end of a text.
-ghost use Rattle.std.specs.Prelude.{◌≡◌, ℕ, ◌<◌, true, List, [], ◌∷◌, ◌++◌, string_bytes, codes, OnOk};
+// What is printed of a packet.
+ghost use Rattle.std.specs.Prelude.{◌≡◌, ℕ, List, Some, IfOk, string_bytes};
 ghost use Rattle.std.specs.List.{flat_map};
-ghost use Rattle.tally.specs.Counts.{counted, counted_pairs};
-ghost use Rattle.body.specs.Printable.{printable};
+ghost use Rattle.std.specs.Fmt.{WritesOnOk};
+ghost use Rattle.tally.specs.Counts.{counted_pairs};
 ghost use Rattle.packet.specs.Faults.{tells};
 ghost use Rattle.packet.specs.Messages.{meaning};
-ghost use Rattle.packet.specs.Packing.{packet_bytes};
 ghost use Rattle.packet.specs.Reading.{reading};
-ghost use Rattle.packet_text.specs.Hex.{hex_digit, hex_text};
-ghost use Rattle.packet_text.specs.Lines.{reply};
-ghost use Rattle.packet_text.specs.Printing.{number, pair_text, code_text, note_text, head_text, accepted_text, refused_text, outcome_text};
+ghost use Rattle.packet_text.specs.Hex.{hex_text};
+ghost use Rattle.packet_text.specs.Printing.{pair_text, code_text, note_text, accepted_text, refused_text, outcome_text};
+ghost use Rattle.packet_text.specs.Lines.{kind_of, lawful_of, text_of, reply};
 
 use crate::line::{BodyKind, TallyKind};
 use body::{Body, CallCode, Note};
 use full::Full;
 use listed::Listed;
 use packet::{Fault, Head, Message};
-use std::alloc::AllocError;
-use tally::{CountedPairs, Pair};
-
-// A hex digit for a number below 16.
-fn hex_digit(n: u8) -> u8
-    requires { n < 16 }
-    ensures { result ≡ hex_digit n }
-{
-    if n < 10 { b'0' + n } else { b'a' + (n - 10) }
-}
-
-// A byte that is a character by itself.
-fn push_ascii(out: &mut String, b: u8) -> Result<(), AllocError>
-    requires { b < 128 }
-    ensures { OnOk result (string_bytes out.new ≡ string_bytes out.old ++ (b ∷ [])) }
-{
-    out.push(b as char)
-}
-
-// Bytes that are characters by themselves.
-fn push_printable(out: &mut String, bytes: &[u8]) -> Result<(), AllocError>
-    requires { printable bytes.now ≡ true }
-    ensures { OnOk result (string_bytes out.new ≡ string_bytes out.old ++ bytes.now) }
-{
-    for b in bytes {
-        push_ascii(out, *b)?;
-    }
-    Ok(())
-}
+use std::alloc::{AllocError, Global};
+use std::{fmt, str};
+use tally::CountedPairs;
 
 // Bytes as hex digits.
-fn push_hex(out: &mut String, bytes: &[u8]) -> Result<(), AllocError>
-    ensures { OnOk result (string_bytes out.new ≡ string_bytes out.old ++ hex_text bytes.now) }
-{
-    for b in bytes {
-        push_ascii(out, hex_digit(*b / 16))?;
-        push_ascii(out, hex_digit(*b % 16))?;
-    }
-    Ok(())
-}
+#[derive(Drop)]
+struct Hex<'a>(&'a [u8]);
 
-fn push_pair(out: &mut String, pair: Pair, count: u16) -> Result<(), AllocError>
-    ensures { OnOk result (string_bytes out.new ≡ string_bytes out.old ++ pair_text (pair, count)) }
-{
-    write!(out, " {} {} {}", pair.station, pair.handset, count)
+impl fmt::Display for Hex<'_> {
+    ghost output = { λ hex. Some (hex_text hex.0.now) };
+
+    fn fmt<W: fmt::Write>(&self, f: &mut fmt::Formatter<W>) -> fmt::Result {
+        for byte in self.0 {
+            write!(f, "{byte:02x}")?;
+        }
+        Ok(())
+    }
 }
 
 // The counted pairs of a tag.
-fn push_pairs<T: CountedPairs>(out: &mut String, tag: &T) -> Result<(), AllocError>
-    ensures { OnOk result (string_bytes out.new ≡ string_bytes out.old ++ flat_map pair_text (counted_pairs (T.Tally.counts tag.now))) }
-{
-    let mut from = Pair {
-        station: 0,
-        handset: 0,
-    };
-    while let Some((pair, count)) = tag.next_counted(from) {
-        push_pair(out, pair, count)?;
-        from = pair.after();
-    }
-    Ok(())
-}
+#[derive(Drop)]
+struct Pairs<'a, T>(&'a T);
 
-fn push_head(out: &mut String, head: Head, pairs: u16) -> Result<(), AllocError>
-    ensures { OnOk result (string_bytes out.new ≡ string_bytes out.old ++ head_text head pairs) }
-{
-    write!(
-        out,
-        "ok {} {} {} {} {}",
-        head.station, head.sender, head.addressee, head.name, pairs
-    )
+impl<T: CountedPairs> fmt::Display for Pairs<'_, T> {
+    ghost output = { λ pairs. Some (flat_map pair_text (counted_pairs (T.Tally.counts pairs.0.now))) };
+
+    fn fmt<W: fmt::Write>(&self, f: &mut fmt::Formatter<W>) -> fmt::Result {
+        for (pair, count) in self.0.pairs() {
+            write!(f, " {} {} {count}", pair.station, pair.handset)?;
+        }
+        Ok(())
+    }
 }
 
 // A kind of body that can be printed.
@@ -93,91 +54,111 @@ pub trait Printed: Body {
     // the text of a body, by its bytes
     ghost text: { List ℕ → List ℕ };
 
-    fn print(&self, out: &mut String) -> Result<(), AllocError>
-        ensures { OnOk result (string_bytes out.new ≡ string_bytes out.old ++ text (Self.Body.bytes self.now)) };
+    fn print<W: fmt::Write>(&self, f: &mut fmt::Formatter<W>) -> fmt::Result
+        ensures { WritesOnOk W.write_str_gives f.old result (text (Self.Body.bytes self.now)) f.new };
 }
 
 impl Printed for CallCode {
     ghost text = { code_text };
 
-    fn print(&self, out: &mut String) -> Result<(), AllocError> {
-        let value = self.value;
-        write!(out, " code {value}")
+    fn print<W: fmt::Write>(&self, f: &mut fmt::Formatter<W>) -> fmt::Result {
+        write!(f, " code {}", self.value)
     }
 }
 
 impl Printed for Note {
     ghost text = { note_text };
 
-    fn print(&self, out: &mut String) -> Result<(), AllocError> {
-        write!(out, " note \"")?;
-        push_printable(out, self.text())?;
-        write!(out, "\"")
+    fn print<W: fmt::Write>(&self, f: &mut fmt::Formatter<W>) -> fmt::Result {
+        let Ok(text) = str::from_utf8(self.text()) else {
+            unreachable()
+        };
+        write!(f, " note \"{text}\"")
     }
 }
 
-fn push_fault(out: &mut String, fault: Fault) -> Result<(), AllocError>
-    ensures { OnOk result (string_bytes out.new ≡ string_bytes out.old ++ refused_text (tells fault)) }
-{
-    match fault.pair() {
-        None => write!(out, "no {} {}", fault.number(), fault.place()),
-        Some(pair) => write!(
-            out,
-            "no {} {} {} {}",
-            fault.number(),
-            fault.place(),
-            pair.station,
-            pair.handset
-        ),
+// A body of a message.
+#[derive(Drop)]
+struct Told<'a, B>(&'a B);
+
+impl<B: Printed> fmt::Display for Told<'_, B> {
+    ghost output = { λ told. Some (B.Printed.text (B.Body.bytes told.0.now)) };
+
+    fn fmt<W: fmt::Write>(&self, f: &mut fmt::Formatter<W>) -> fmt::Result {
+        self.0.print(f)
     }
 }
 
 // The most bytes of a packet: 256 pairs, and a body of 255 bytes.
 const LONGEST_PACKET: usize = 1293;
 
-fn push_message<T: CountedPairs, B: Printed>(
-    out: &mut String,
-    message: &Message<T, B>,
-) -> Result<(), AllocError>
-    ensures { OnOk result (string_bytes out.new ≡ string_bytes out.old ++ accepted_text B.Body.kind B.Printed.text (meaning T.Tally.counts B.Body.bytes message.now)) }
-{
-    let mut packet = [0; LONGEST_PACKET];
-    let Ok(length) = packet_write::pack(message, &mut packet) else {
-        unreachable()
-    };
-    push_head(out, message.head(), message.tag().counted())?;
-    push_pairs(out, message.tag())?;
-    message.body().print(out)?;
-    write!(out, " ")?;
-    push_hex(out, &packet[..length])
+// A message that a packet carries.
+#[derive(Drop)]
+struct Accepted<'a, T, B>(&'a Message<T, B>);
+
+impl<T: CountedPairs, B: Printed> fmt::Display for Accepted<'_, T, B> {
+    ghost output = { λ accepted. Some (accepted_text B.Body.kind B.Printed.text (meaning T.Tally.counts B.Body.bytes accepted.0.now)) };
+
+    fn fmt<W: fmt::Write>(&self, f: &mut fmt::Formatter<W>) -> fmt::Result {
+        let mut packet = [0; LONGEST_PACKET];
+        let Ok(length) = packet_write::pack(self.0, &mut packet) else {
+            unreachable()
+        };
+        let Head {
+            station,
+            sender,
+            addressee,
+            name,
+        } = self.0.head();
+        let tag = self.0.tag();
+        let pairs = tag.counted();
+        write!(f, "ok {station} {sender} {addressee} {name} {pairs}")?;
+        write!(f, "{}{} {}", Pairs(tag), Told(self.0.body()), Hex(&packet[..length]))
+    }
+}
+
+// Why a packet is refused.
+#[derive(Drop)]
+struct Refused(Fault);
+
+impl fmt::Display for Refused {
+    ghost output = { λ refused. Some (refused_text (tells refused.0)) };
+
+    fn fmt<W: fmt::Write>(&self, f: &mut fmt::Formatter<W>) -> fmt::Result {
+        write!(f, "no {} {}", self.0.number(), self.0.place())?;
+        if let Some(pair) = self.0.pair() {
+            write!(f, " {} {}", pair.station, pair.handset)?;
+        }
+        Ok(())
+    }
 }
 
 // What is printed of a packet that is read with some kind of tally and of body.
-fn push_packet<T: CountedPairs, B: Printed>(
-    out: &mut String,
-    packet: &[u8],
-) -> Result<(), AllocError>
-    ensures { OnOk result (string_bytes out.new ≡ string_bytes out.old ++ outcome_text B.Body.kind B.Printed.text (reading B.Body.kind B.Body.lawful T.Tally.fits packet.now)) }
+fn outcome<T: CountedPairs, B: Printed>(heap: Global, packet: &[u8]) -> Result<String, AllocError>
+    ensures { IfOk result (λ text. string_bytes text ≡ outcome_text B.Body.kind B.Printed.text (reading B.Body.kind B.Body.lawful T.Tally.fits packet.now)) }
 {
     match packet_read::read::<T, B>(packet) {
-        Ok(message) => push_message(out, &message),
-        Err(fault) => push_fault(out, fault),
+        Ok(message) => format!(in heap; "{}", Accepted(&message)),
+        Err(fault) => format!(in heap; "{}", Refused(fault)),
+    }
+}
+
+// The same, where the kind of body is asked for.
+fn outcome_of<T: CountedPairs>(heap: Global, body: BodyKind, packet: &[u8]) -> Result<String, AllocError>
+    ensures { IfOk result (λ text. string_bytes text ≡ outcome_text (kind_of body) (text_of body) (reading (kind_of body) (lawful_of body) T.Tally.fits packet.now)) }
+{
+    match body {
+        BodyKind::Code => outcome::<T, CallCode>(heap, packet),
+        BodyKind::Note => outcome::<T, Note>(heap, packet),
     }
 }
 
 // What is printed of a packet by the kinds that are asked for.
-pub(crate) fn push_reply(
-    out: &mut String,
-    tally: TallyKind,
-    body: BodyKind,
-    packet: &[u8],
-) -> Result<(), AllocError>
-    ensures { OnOk result (string_bytes out.new ≡ string_bytes out.old ++ reply (record { tally = tally; body = body; packet = packet.now })) }
+pub(crate) fn reply(heap: Global, tally: TallyKind, body: BodyKind, packet: &[u8]) -> Result<String, AllocError>
+    ensures { IfOk result (λ text. string_bytes text ≡ reply (record { tally = tally; body = body; packet = packet.now })) }
 {
-    match (tally, body) {
-        (TallyKind::Full, BodyKind::Code) => push_packet::<Full, CallCode>(out, packet),
-        (TallyKind::Full, BodyKind::Note) => push_packet::<Full, Note>(out, packet),
-        (TallyKind::Listed, BodyKind::Code) => push_packet::<Listed, CallCode>(out, packet),
-        (TallyKind::Listed, BodyKind::Note) => push_packet::<Listed, Note>(out, packet),
+    match tally {
+        TallyKind::Full => outcome_of::<Full>(heap, body, packet),
+        TallyKind::Listed => outcome_of::<Listed>(heap, body, packet),
     }
 }
