@@ -3,7 +3,7 @@ ghost use Rattle.body.specs.Printable.{printable};
 
 // A note of at most 24 printable bytes: the first `len` of the text, which is 0 past them. An array with its length, since a
 // body is copied and lies in tables without a heap.
-#[derive(Clone, Copy)]
+#[derive(Clone, Copy, Debug, PartialEq, Eq)]
 pub struct Note {
     pub(crate) text: [u8; 24],
     pub(crate) len: usize,
