@@ -1,5 +1,5 @@
 // A call code: a 16-bit number.
-#[derive(Clone, Copy, PartialEq, Eq)]
+#[derive(Clone, Copy, Debug, PartialEq, Eq)]
 pub struct CallCode {
     pub value: u16,
 }

@@ -3,8 +3,8 @@ ghost use Rattle.std.specs.Prelude.{◌≡◌, ℕ};
 ghost use Rattle.body.specs.Codes.{code_bytes, code_lawful};
 ghost use Rattle.std.proofs.Common.{rules};
 
-use crate::Body;
 use crate::code::CallCode;
+use crate::{Body, ShortBuffer, write_over};
 
 // the number of this kind of body
 const KIND: u8 = 1;
@@ -35,19 +35,14 @@ impl Body for CallCode {
         SIZE
     }
 
-    fn write(&self, out: &mut [u8]) -> bool {
-        if out.len() < 2 {
-            return false;
-        }
-        out[0] = (self.value / 256) as u8;
-        out[1] = (self.value % 256) as u8;
-        true
+    fn write(&self, out: &mut [u8]) -> Result<(), ShortBuffer> {
+        write_over(&self.value.to_be_bytes(), out)
     }
 
     fn read(told: &[u8]) -> Option<CallCode> {
         match told {
             [high, low] => Some(CallCode {
-                value: *high as u16 * 256 + *low as u16,
+                value: u16::from_be_bytes([*high, *low]),
             }),
             _ => None,
         }

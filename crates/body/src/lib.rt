@@ -1,9 +1,9 @@
 // What a message carries: a body, told as bytes.
 #![tactic(auto)]
 
-ghost use Rattle.std.specs.Prelude.{◌≡◌, ℕ, ◌≤◌, Bool, true, List, length, nat_le};
+ghost use Rattle.std.specs.Prelude.{◌≡◌, ℕ, ◌≤◌, Bool, true, List, length};
 ghost use Rattle.std.specs.Option.{option_map};
-ghost use Rattle.body.specs.Bytes.{over, told_back};
+ghost use Rattle.body.specs.Bytes.{over, writing, told_back};
 
 mod code;
 mod codes;
@@ -12,6 +12,22 @@ mod notes;
 
 pub use code::CallCode;
 pub use note::Note;
+
+// The buffer is shorter than what is to be written.
+#[derive(Clone, Copy, Debug, PartialEq, Eq)]
+pub struct ShortBuffer;
+
+// Writes some bytes over the front of a buffer, if it is long enough.
+fn write_over(told: &[u8], out: &mut [u8]) -> Result<(), ShortBuffer>
+    ensures answers { result ≡ writing told.now out.old }
+    ensures leaves { out.new ≡ over told.now out.old }
+{
+    if out.len() < told.len() {
+        return Err(ShortBuffer);
+    }
+    out[..told.len()].copy_from_slice(told);
+    Ok(())
+}
 
 // A kind of body.
 pub trait Body: Copy {
@@ -32,9 +48,9 @@ pub trait Body: Copy {
     fn size(&self) -> u8
         ensures { result ≡ length (bytes self.now) };
 
-    // Writes the body's bytes to the front of a buffer that is long enough, and says whether it is.
-    fn write(&self, out: &mut [u8]) -> bool
-        ensures answers { result ≡ nat_le (length (bytes self.now)) (length out.old) }
+    // Writes the body's bytes over the front of a buffer, if it is long enough.
+    fn write(&self, out: &mut [u8]) -> Result<(), ShortBuffer>
+        ensures answers { result ≡ writing (bytes self.now) out.old }
         ensures leaves { out.new ≡ over (bytes self.now) out.old };
 
     // The body that tells these bytes, or none where they are not lawful.

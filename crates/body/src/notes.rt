@@ -5,8 +5,8 @@ ghost use Rattle.body.specs.Notes.{note_bytes};
 ghost use Rattle.body.specs.Laws.{told_once};
 ghost use Rattle.std.proofs.Common.{rules};
 
-use crate::Body;
 use crate::note::Note;
+use crate::{Body, ShortBuffer, write_over};
 
 // the number of this kind of body
 const KIND: u8 = 2;
@@ -14,23 +14,11 @@ const KIND: u8 = 2;
 // the most bytes of a note
 const MOST: usize = 24;
 
-// Is the byte from 32 to 126?
-fn is_printable(b: u8) -> bool
-    ensures { result ≡ (nat_le 32 b && nat_le b 126) }
-{
-    32 <= b && b <= 126
-}
-
 // Is every byte from 32 to 126?
 fn all_printable(told: &[u8]) -> bool
     ensures { result ≡ printable told.now }
 {
-    for b in told {
-        if !is_printable(*b) {
-            return false;
-        }
-    }
-    true
+    told.iter().all(|b| matches!(b, b' '..=b'~'))
 }
 
 // Some bytes, and 0 past them.
@@ -39,7 +27,7 @@ fn padded(told: &[u8]) -> [u8; 24]
     ensures { result ≡ told.now ++ replicate (24 - length told.now) 0 }
 {
     let mut text = [0; 24];
-    text[0..told.len()].copy_from_slice(told);
+    text[..told.len()].copy_from_slice(told);
     text
 }
 
@@ -48,7 +36,7 @@ impl Note {
     pub fn text(&self) -> &[u8]
         ensures { result.now ≡ note_bytes self.now }
     {
-        &self.text[0..self.len]
+        &self.text[..self.len]
     }
 }
 
@@ -75,13 +63,8 @@ impl Body for Note {
         self.len as u8
     }
 
-    fn write(&self, out: &mut [u8]) -> bool {
-        let len = self.len;
-        if out.len() < len {
-            return false;
-        }
-        out[0..len].copy_from_slice(self.text());
-        true
+    fn write(&self, out: &mut [u8]) -> Result<(), ShortBuffer> {
+        write_over(self.text(), out)
     }
 
     fn read(told: &[u8]) -> Option<Note> {

@@ -5,12 +5,12 @@ use Rattle.std.proofs.lemmas.List.{length_push}
 use Rattle.std.proofs.lemmas.Bool.{cond-true, cond-false, cases_eq, cases_order, lt-ltb, le-ltb, eq-eqb, ne_eqb, and_from, and_right, le-leb, lt-leb, not_from_true, not_from_false}
 use Rattle.tally.specs.declared.pair.Pair.{Pair}
 use Rattle.tally.specs.Pairs.{inside, rank, pair_at}
-use Rattle.tally.specs.Counts.{Counts, raised, larger, counted_pairs, counted, none_above}
+use Rattle.tally.specs.Counts.{counted_on, Counts, raised, larger, counted_pairs, counted, none_above}
 use Rattle.tally.specs.Answers.{refuses, verdict}
 use Rattle.tally.proofs.Order.{at_rank, rank_at, rank_below, same_rank}
 use Rattle.tally.proofs.Bounds.{bounded_lowered, bounded_larger}
 use Rattle.tally.proofs.Building.{below, below_le, below_more, below_none, below_skip, below_whole, Ranged, stopped}
-use Rattle.tally.proofs.Listing.{none_counted, all_rest, rest, first, Comes, rest_here, rest_zero, rest_skip, first_none, comes_from, zeros_from}
+use Rattle.tally.proofs.Listing.{none_counted, all_rest, first, Comes, rest_here, rest_zero, rest_skip, first_none, comes_from, zeros_from}
 use Rattle.tally.proofs.Splitting.{rest_same, raised_last}
 use Rattle.listed.specs.Entries.{listed_fits}
 use Rattle.listed.specs.Laws.{fits_lowered}
@@ -19,7 +19,7 @@ use Rattle.listed.proofs.Seeking.{heads_rest}
 
 -- the first counted pair from m on
 first_at : (c : Counts) (m : ℕ) (q : Pair) → inside q ≡ true → m ≤ rank q → ((i : ℕ) → m ≤ i → i < rank q → c (pair_at i) ≡ 0) → (c q ≢ 0)
-    → first (rest c m) ≡ Some (q, c q)
+    → first (counted_on c m) ≡ Some (q, c q)
 first_at c m q i low zeros some =
     let at = at_rank q i in
     ap first (rest_skip c m (rank q) low (omega (arith, rank_below q i)) zeros ∙ rest_here c (rank q) (rank_below q i) (λ z. some (ap c (sym at) ∙ z)))
@@ -27,7 +27,7 @@ first_at c m q i low zeros some =
 
 -- past the pair q, before which c counts nothing from m on
 past_is : (c : Counts) (m : ℕ) (q : Pair) → inside q ≡ true → m ≤ rank q → ((i : ℕ) → m ≤ i → i < rank q → c (pair_at i) ≡ 0)
-    → cond (heads q (rest c m)) (drop 1 (rest c m)) (rest c m) ≡ rest c (rank q + 1)
+    → cond (heads q (counted_on c m)) (drop 1 (counted_on c m)) (counted_on c m) ≡ counted_on c (rank q + 1)
 past_is c m q i low zeros =
     let here = rest_skip c m (rank q) low (omega (arith, rank_below q i)) zeros in
     let is : c (pair_at (rank q)) ≡ c q = ap c (at_rank q i) in
@@ -43,14 +43,14 @@ module _ (c d : Counts) where
   w = larger c d
 
   -- where one list has ended, the other one is left
-  left_only : (m : ℕ) → rest d m ≡ [] → rest w m ≡ rest c m
+  left_only : (m : ℕ) → counted_on d m ≡ [] → counted_on w m ≡ counted_on c m
   left_only m e = rest_same w c m (λ i a b. omega (arith, zeros_from d m e i a b))
 
-  right_only : (m : ℕ) → rest c m ≡ [] → rest w m ≡ rest d m
+  right_only : (m : ℕ) → counted_on c m ≡ [] → counted_on w m ≡ counted_on d m
   right_only m e = rest_same w d m (λ i a b. omega (arith, zeros_from c m e i a b))
 
   -- two lists merged begin with the first pair that either counts
-  front_is : (m : ℕ) (xs ys : List (Pair × ℕ)) → rest c m ≡ xs → rest d m ≡ ys → merged_front xs ys ≡ first (rest w m)
+  front_is : (m : ℕ) (xs ys : List (Pair × ℕ)) → counted_on c m ≡ xs → counted_on d m ≡ ys → merged_front xs ys ≡ first (counted_on w m)
   front_is m [] [] e f = sym (ap first (right_only m e ∙ f))
   front_is m [] (y ∷ ys) e f = sym (ap first (right_only m e ∙ f))
   front_is m (x ∷ xs) [] e f = sym (ap first (left_only m f ∙ e))
@@ -86,8 +86,8 @@ module _ (c d : Counts) where
 
 -- so far: what is left of the lists from a place on, and what is merged before it
 pub record Merging (c d : Counts) (a b merged : List (Pair × ℕ)) (m : ℕ) : Type 0 where
-  pub left : a ≡ rest c m
-  pub right : b ≡ rest d m
+  pub left : a ≡ counted_on c m
+  pub right : b ≡ counted_on d m
   pub done : merged ≡ counted_pairs (below (larger c d) m)
 
 module _ (c d : Counts) (ranged_c : Ranged c) (ranged_d : Ranged d) where
@@ -141,5 +141,5 @@ module _ (c d : Counts) (ranged_c : Ranged c) (ranged_d : Ranged d) where
 
     pub merging_all : merged_front a b ≡ None → merged ≡ counted_pairs (w c d)
     merging_all end =
-        let nothing = first_none (rest (w c d) m) (sym (front_is c d m a b (sym so_far.left) (sym so_far.right)) ∙ end) in
+        let nothing = first_none (counted_on (w c d) m) (sym (front_is c d m a b (sym so_far.left) (sym so_far.right)) ∙ end) in
         so_far.done ∙ ap counted_pairs (below_whole (w c d) m ranged (zeros_from (w c d) m nothing))

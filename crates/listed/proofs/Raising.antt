@@ -1,5 +1,6 @@
 -- A list in order, with one of its pairs raised or one put in.
 use Rattle.std.proofs.Common.{◌≡◌, ℕ, ◌+◌, ◌<◌, ◌≤◌, max, true, false, List, ◌∷◌, ◌++◌, length, get_or, take, drop, set, sym, refl, ap, ◌∙◌, subst, arith}
+use Rattle.std.specs.Prelude.{Ok, Err, Result, MatchResult}
 use mathlib.Core.Path.{fun_ext}
 use lib.Seq.{take-set-lt}
 use Rattle.std.proofs.lemmas.List.{take-append-drop, set_at, get_or_at, length-take, length-take-le, get_or-take}
@@ -7,30 +8,31 @@ use Rattle.std.proofs.lemmas.List.Edits.{length-insert}
 use Rattle.std.proofs.lemmas.Bool.{both_ways, eqb-true, eq-eqb, not-false, not_from_true, and_right, lt-leb, cond_both}
 use Rattle.tally.specs.declared.pair.Pair.{Pair}
 use Rattle.tally.specs.Pairs.{inside, same, rank, pair_at}
-use Rattle.tally.specs.Counts.{Counts, raised, counted_pairs, counted, count_of, none_above}
+use Rattle.tally.specs.Counts.{counted_on, Counts, raised, counted_pairs, counted, count_of, none_above}
 use Rattle.tally.proofs.Order.{at_rank, rank_below}
 use Rattle.tally.proofs.Bounds.{bounded_raised}
 use Rattle.tally.proofs.Building.{ranged_raised}
-use Rattle.tally.proofs.Listing.{rest, rest_here, rest_zero}
+use Rattle.tally.proofs.Listing.{rest_here, rest_zero}
 use Rattle.tally.proofs.Splitting.{before, raised_between}
 use Rattle.listed.specs.declared.entries.Listed.{Listed}
 use Rattle.listed.specs.Entries.{InOrder, listed_fits, seek, no_entry}
-use Rattle.listed.specs.Listing.{listed, Sought}
+use Rattle.listed.specs.Listing.{listed, sought, Sought}
 use Rattle.listed.specs.Merging.{heads}
 use Rattle.listed.specs.Laws.{in_order_ranged, in_order_fits}
 use Rattle.listed.proofs.Keeping.{Kept, kept}
-use Rattle.listed.proofs.Seeking.{seek_le, sought, heads_rest}
+use Rattle.listed.proofs.Searching.{found_there, absent_there, within_since}
+use Rattle.listed.proofs.Seeking.{seek_le, sought as sought_parts, heads_rest}
 
 -- at is the position at which the pair p is sought in es
 module _ (es : List (Pair × ℕ)) (ordered : InOrder es) (p : Pair) (i : inside p ≡ true) (at : ℕ) (here : at ≡ seek (rank p) es) where
   abbrev c : Counts
   c = count_of es
 
-  parted : (take at es ≡ before c (rank p)) × (drop at es ≡ rest c (rank p))
+  parted : (take at es ≡ before c (rank p)) × (drop at es ≡ counted_on c (rank p))
   parted =
-      let P : List (Pair × ℕ) → Type 0 = λ xs. (take (seek (rank p) xs) xs ≡ before c (rank p)) × (drop (seek (rank p) xs) xs ≡ rest c (rank p)) in
-      let Q : ℕ → Type 0 = λ n. (take n es ≡ before c (rank p)) × (drop n es ≡ rest c (rank p)) in
-      subst Q (sym here) (subst P (sym ordered) (sought c (rank p) (omega (arith, rank_below p i))))
+      let P : List (Pair × ℕ) → Type 0 = λ xs. (take (seek (rank p) xs) xs ≡ before c (rank p)) × (drop (seek (rank p) xs) xs ≡ counted_on c (rank p)) in
+      let Q : ℕ → Type 0 = λ n. (take n es ≡ before c (rank p)) × (drop n es ≡ counted_on c (rank p)) in
+      subst Q (sym here) (subst P (sym ordered) (sought_parts c (rank p) (omega (arith, rank_below p i))))
 
   -- the pair's entry stands there exactly where it is counted
   pub counted_there : heads p (drop at es) ≡ true → c p ≡ 0 → ⊥
@@ -43,11 +45,11 @@ module _ (es : List (Pair × ℕ)) (ordered : InOrder es) (p : Pair) (i : inside
   front = length-take-le at es (omega (arith, here, seek_le (rank p) es))
 
   module _ (counts : c p ≡ 0 → ⊥) where
-    whole : es ≡ take at es ++ ((p, c p) ∷ rest c (rank p + 1))
+    whole : es ≡ take at es ++ ((p, c p) ∷ counted_on c (rank p + 1))
     whole =
         let s : pair_at (rank p) ≡ p = at_rank p i in
         sym (take-append-drop at es)
-        ∙ ap (λ xs. take at es ++ xs) (parted.1 ∙ rest_here c (rank p) (rank_below p i) (λ z. counts (ap c (sym s) ∙ z)) ∙ (λ j. (s j, c (s j)) ∷ rest c (rank p + 1)))
+        ∙ ap (λ xs. take at es ++ xs) (parted.1 ∙ rest_here c (rank p) (rank_below p i) (λ z. counts (ap c (sym s) ∙ z)) ∙ (λ j. (s j, c (s j)) ∷ counted_on c (rank p + 1)))
 
     pub entry_there : (d : Pair × ℕ) → get_or es at d ≡ (p, c p)
     entry_there d = ap (λ xs. get_or xs at d) whole ∙ get_or_at (take at es) _ _ d at front
@@ -57,14 +59,14 @@ module _ (es : List (Pair × ℕ)) (ordered : InOrder es) (p : Pair) (i : inside
     raised_there n =
         ap (λ xs. set xs at (p, max (c p) n)) whole
         ∙ set_at (take at es) _ _ _ at front
-        ∙ ap (λ xs. xs ++ ((p, max (c p) n) ∷ rest c (rank p + 1))) parted.0
+        ∙ ap (λ xs. xs ++ ((p, max (c p) n) ∷ counted_on c (rank p + 1))) parted.0
         ∙ sym (raised_between c p i n (omega (arith, counts)))
 
   -- an entry put in
   pub put_there : (n : ℕ) → c p ≡ 0 → 0 < n → take at es ++ ((p, n) ∷ drop at es) ≡ counted_pairs (raised c p n)
   put_there n z some =
       let most : n ≡ max (c p) n = omega (arith, z) in
-      let after : drop at es ≡ rest c (rank p + 1) = parted.1 ∙ rest_zero c (rank p) (rank_below p i) (ap c (at_rank p i) ∙ z) in
+      let after : drop at es ≡ counted_on c (rank p + 1) = parted.1 ∙ rest_zero c (rank p) (rank_below p i) (ap c (at_rank p i) ∙ z) in
       (λ j. parted.0 j ++ ((p, most j) ∷ after j)) ∙ sym (raised_between c p i n (omega (arith, most)))
 
 -- a listed tally t, and the position at which a pair's entry stands or would stand in it
@@ -93,14 +95,14 @@ module _ (t : Listed) (p : Pair) (at n : ℕ) (sought_there : Sought (listed t) 
       after zs (e ∙ put_there (listed t) t.ordered p sought_there.in_range at sought_there.here n z some)
 
   -- there is no place for one pair more
-  pub too_many : heads p (drop at (listed t)) ≡ false → 0 < n → t.len ≡ 96 → listed_fits (raised (count_of (listed t)) p n) ≡ false
+  pub too_many : heads p (drop at (listed t)) ≡ false → 0 < n → length (listed t) ≡ 96 → listed_fits (raised (count_of (listed t)) p n) ≡ false
   too_many absent some full =
       let es = listed t in
       let zs = take at es ++ ((p, n) ∷ drop at es) in
       let new = insert_kept absent some zs refl in
       let long : length zs ≡ length es + 1 = length-insert es at (p, n) (omega (arith, sought_there.here, seek_le (rank p) es)) in
       let many : counted (raised (count_of es) p n) ≡ 97 =
-      ap counted (sym new.counts) ∙ ap length (sym new.ordered) ∙ omega (arith, long, full, t.sized, length-take t.len t.entries) in
+      ap counted (sym new.counts) ∙ ap length (sym new.ordered) ∙ omega (arith, long, full) in
       and_right (none_above 8191 (raised (count_of es) p n)) _ (lt-leb _ _ (omega (arith, many)))
 
 pub own_fits : (t : Listed) → listed_fits (count_of (listed t)) ≡ true
@@ -109,3 +111,16 @@ own_fits t = in_order_fits (listed t) t.ordered t.low (omega (arith, length-take
 -- a raise to 0 changes nothing
 pub raised_to_none : (c : Counts) (p : Pair) (n : ℕ) → n ≡ 0 → c ≡ raised c p n
 raised_to_none c p n z = fun_ext (λ q. sym (cond_both (same q p) _ _ (λ x. x ≡ c q) (λ s. omega arith) (λ _. refl)))
+
+-- the count that a search for a pair shows
+pub count_found : (t : Listed) (p : Pair) → inside p ≡ true → (r : Result ℕ ℕ) → r ≡ sought (listed t) p → (n : ℕ)
+    → MatchResult r (λ at. n ≡ (get_or t.entries at no_entry).1) (λ _. n ≡ 0) → n ≡ count_of (listed t) p
+count_found t p i (Ok at) is n h =
+    let there = found_there (listed t) p at is in
+    let within = within_since (listed t) p at there.1 in
+    h ∙ ap (λ (e : Pair × ℕ). e.1)
+    (sym (get_or-take t.len t.entries at no_entry (omega (arith, within, length-take t.len t.entries)))
+    ∙ entry_there (listed t) t.ordered p i at there.0 (counted_there (listed t) t.ordered p i at there.0 there.1) no_entry)
+count_found t p i (Err at) is n h =
+    let absent = absent_there (listed t) p at is in
+    h ∙ sym (not_counted (listed t) t.ordered p i at absent.0 absent.1)

@@ -1,75 +1,31 @@
 // The kind of tally that lists the counts that are not 0.
 #![tactic(auto)]
 
-ghost use Rattle.std.specs.Prelude.{◌≡◌, ℕ, ◌+◌, ◌<◌, ◌≤◌, true, false, List, ◌∷◌, ◌++◌, length, take, drop, if◌then◌else◌, Err, MatchResult};
+ghost use Rattle.std.specs.Prelude.{◌≡◌, ℕ, ◌+◌, ◌<◌, ◌≤◌, true, false, List, [], ◌∷◌, ◌++◌, length, take, drop, if◌then◌else◌, Err, MatchResult};
+ghost use Rattle.tally.specs.Pairs.{inside};
 ghost use Rattle.tally.specs.Counts.{raised, larger, counted_pairs, count_of, none_above};
 ghost use Rattle.tally.specs.Answers.{verdict};
 ghost use Rattle.listed.specs.Entries.{InOrder, seek, listed_fits};
-ghost use Rattle.listed.specs.Listing.{listed, Sought};
+ghost use Rattle.listed.specs.Listing.{listed, sought, Sought};
 ghost use Rattle.listed.specs.Merging.{front_of, merged_front, heads};
 ghost use Rattle.listed.specs.Laws.{few_fit, fits_bounded, fits_lowered, front_short, in_order_fits, in_order_ranged};
 
-use tally::{CountedPairs, Pair, Refusal, Tally};
+use std::cmp::Ordering;
+use tally::{CountedPairs, FIRST, MOST, NotRaised, Pair, Refusal, Tally};
 
 mod entries;
 
 use entries::Entry;
 pub use entries::Listed;
 
-// the largest count
-const MOST: u16 = 8191;
-
 // how many counts there may be
 const PLACES: usize = 96;
-
-// places that count nothing
-const NOTHING: [Entry; 96] = [(
-    Pair {
-        station: 0,
-        handset: 0,
-    },
-    0,
-); 96];
-
-// How many entries stand before a place of the order.
-fn seek_in(entries: &[Entry], rank: usize) -> usize
-    ensures { result ≡ seek rank entries.now }
-{
-    for (i, e) in entries.iter().enumerate() {
-        if e.0.rank() >= rank {
-            return i;
-        }
-    }
-    entries.len()
-}
-
-// Does the entry at a position count the pair?
-fn counts_in(entries: &[Entry], at: usize, pair: Pair) -> bool
-    ensures is { result ≡ heads pair (drop at entries.now) }
-    ensures within { result ≡ true → at < length entries.now }
-{
-    at < entries.len() && entries[at].0 == pair
-}
-
-// The count beside a pair, or 0 where it is not listed.
-fn count_of(entries: &[Entry], pair: Pair) -> u16
-    ensures { result ≡ count_of entries.now pair }
-{
-    for e in entries {
-        if pair == e.0 {
-            return e.1;
-        }
-    }
-    0
-}
 
 // Puts an entry in at a position, and moves the later ones on.
 fn insert(entries: &mut [Entry; 96], len: usize, at: usize, entry: Entry)
     requires within { at ≤ len }
     requires room { len < 96 }
-    requires sized { length entries.old ≡ 96 }
-    ensures sized { length entries.new ≡ 96 }
-    ensures holds { take (len + 1) entries.new ≡ take at (take len entries.old) ++ (entry ∷ drop at (take len entries.old)) }
+    ensures { take (len + 1) entries.new ≡ take at (take len entries.old) ++ (entry ∷ drop at (take len entries.old)) }
 {
     entries[len] = entry;
     entries[at..len + 1].rotate_right(1);
@@ -79,13 +35,11 @@ fn insert(entries: &mut [Entry; 96], len: usize, at: usize, entry: Entry)
 fn earlier(x: Entry, y: Entry) -> Entry
     ensures { result ≡ front_of x y }
 {
-    if x.0.rank() < y.0.rank() {
-        return x;
+    match x.0.rank().cmp(&y.0.rank()) {
+        Ordering::Less => x,
+        Ordering::Greater => y,
+        Ordering::Equal => (x.0, u16::max(x.1, y.1)),
     }
-    if y.0.rank() < x.0.rank() {
-        return y;
-    }
-    (x.0, u16::max(x.1, y.1))
 }
 
 // The entry with which two lists merged in order begin.
@@ -105,38 +59,27 @@ fn front(a: &[Entry], b: &[Entry]) -> Option<Entry>
 fn past(list: &[Entry], pair: Pair) -> &[Entry]
     ensures { result.now ≡ (if heads pair list.now then drop 1 list.now else list.now) }
 {
-    if counts_in(list, 0, pair) {
-        &list[1..]
-    } else {
-        list
+    match list {
+        [first, rest @ ..] if first.0 == pair => rest,
+        _ => list,
     }
 }
 
-// Merges two lists in order of pairs, with the larger count where both count a pair. How many entries that makes, or
-// the first pair for which there is no place.
-fn merge(first: &[Entry], second: &[Entry], merged: &mut [Entry; 96]) -> Result<usize, Refusal>
-    requires first_ordered { InOrder first.now }
-    requires second_ordered { InOrder second.now }
-    requires first_low { none_above 8191 (count_of first.now) ≡ true }
-    requires second_low { none_above 8191 (count_of second.now) ≡ true }
-    requires sized { length merged.old ≡ 96 }
+// Two tallies merged, with the larger count where both count a pair; or the first pair for which there is no place.
+fn merged(first: &Listed, second: &Listed) -> Result<Listed, Refusal>
     ensures { MatchResult result
-        (λ n. (n ≤ 96) × (take n merged.new ≡ counted_pairs (larger (count_of first.now) (count_of second.now))))
-        (λ e. Err e ≡ verdict {A = Unit {0}} listed_fits (larger (count_of first.now) (count_of second.now)) tt) }
+        (λ t. listed t ≡ counted_pairs (larger (count_of (listed first.now)) (count_of (listed second.now))))
+        (λ e. Err e ≡ verdict {A = Unit {0}} listed_fits (larger (count_of (listed first.now)) (count_of (listed second.now))) tt) }
 {
-    let mut a = first;
-    let mut b = second;
-    let mut len = 0;
+    let mut a = first.list();
+    let mut b = second.list();
+    let mut merged = Listed::blank();
     while let Some(entry) = front(a, b) {
-        if len == PLACES {
-            return Err(Refusal { pair: entry.0 });
-        }
-        merged[len] = entry;
-        len += 1;
+        merged.push(entry)?;
         a = past(a, entry.0);
         b = past(b, entry.0);
     }
-    Ok(len)
+    Ok(merged)
 }
 
 impl Listed {
@@ -151,15 +94,16 @@ impl Listed {
     fn position(&self, rank: usize) -> usize
         ensures { result ≡ seek rank (listed self.now) }
     {
-        seek_in(self.list(), rank)
+        self.list().partition_point(|entry| entry.0.rank() < rank)
     }
 
-    // Does the entry at a position count the pair?
-    fn counts_at(&self, at: usize, pair: Pair) -> bool
-        ensures is { result ≡ heads pair (drop at (listed self.now)) }
-        ensures within { result ≡ true → at < self.now.len }
+    // Where the entry of a pair in range stands or, where there is none, would stand.
+    fn search(&self, pair: Pair) -> Result<usize, usize>
+        requires { inside pair ≡ true }
+        ensures { result ≡ sought (listed self.now) pair }
     {
-        counts_in(self.list(), at, pair)
+        self.list()
+            .binary_search_by_key(&pair.rank(), |entry| entry.0.rank())
     }
 
     // Raises the count of a pair whose entry stands at its position.
@@ -186,6 +130,22 @@ impl Listed {
         insert(&mut self.entries, self.len, at, (pair, number));
         self.len += 1;
     }
+
+    // Lists an entry behind the others, if there is a place for it.
+    fn push(&mut self, entry: Entry) -> Result<(), Refusal>
+        requires ordered { InOrder (listed self.old ++ entry ∷ []) }
+        requires low { none_above 8191 (count_of (listed self.old ++ entry ∷ [])) ≡ true }
+        ensures { MatchResult result
+            (λ _. listed self.new ≡ listed self.old ++ entry ∷ [])
+            (λ e. (e.pair ≡ entry.0) × (length (listed self.old) ≡ 96)) }
+    {
+        if self.len == PLACES {
+            return Err(Refusal { pair: entry.0 });
+        }
+        self.entries[self.len] = entry;
+        self.len += 1;
+        Ok(())
+    }
 }
 
 impl Tally for Listed {
@@ -205,39 +165,33 @@ impl Tally for Listed {
 
     fn blank() -> Listed {
         Listed {
-            entries: NOTHING,
+            entries: [(FIRST, 0); 96],
             len: 0,
         }
     }
 
     fn count(&self, pair: Pair) -> u16 {
-        count_of(self.list(), pair)
+        if !pair.in_range() {
+            return 0;
+        }
+        self.search(pair).map_or(0, |at| self.entries[at].1)
     }
 
-    fn try_raise(&mut self, pair: Pair, number: u16) -> bool {
+    fn try_raise(&mut self, pair: Pair, number: u16) -> Result<(), NotRaised> {
         if !pair.in_range() || number > MOST {
-            return false;
+            return Err(NotRaised);
         }
-        let at = self.position(pair.rank());
-        if self.counts_at(at, pair) {
-            self.raise_at(at, pair, number);
-            return true;
+        match self.search(pair) {
+            Ok(at) => self.raise_at(at, pair, number),
+            Err(_) if number == 0 => {}
+            Err(_) if self.len == PLACES => return Err(NotRaised),
+            Err(at) => self.insert_at(at, pair, number),
         }
-        if number == 0 {
-            return true;
-        }
-        if self.len == PLACES {
-            return false;
-        }
-        self.insert_at(at, pair, number);
-        true
+        Ok(())
     }
 
     fn join(&mut self, other: &Listed) -> Result<(), Refusal> {
-        let mut merged = NOTHING;
-        let len = merge(self.list(), other.list(), &mut merged)?;
-        self.entries[0..len].copy_from_slice(&merged[0..len]);
-        self.len = len;
+        *self = merged(self, other)?;
         Ok(())
     }
 }
@@ -245,11 +199,7 @@ impl Tally for Listed {
 impl CountedPairs for Listed {
     fn next_counted(&self, from: Pair) -> Option<(Pair, u16)> {
         let at = self.position(from.start());
-        if at < self.len {
-            Some(self.entries[at])
-        } else {
-            None
-        }
+        self.list().get(at).copied()
     }
 
     fn counted(&self) -> u16 {

@@ -1,11 +1,11 @@
 -- Tables in which no count is above a number.
 use Rattle.std.proofs.Common.{◌≡◌, ℕ, ◌<◌, ◌≤◌, max, Bool, true, false, leb, Decides, refl, arith}
-use Rattle.std.proofs.lemmas.Bool.{leb-true, le-leb, cond_both, cond-true}
+use Rattle.std.proofs.lemmas.Bool.{false_from_ne_true, leb-true, le-leb, cond_both, cond-true}
 use Rattle.std.proofs.lemmas.Bool.Decides.{Decides-below_and}
 use Rattle.tally.specs.declared.pair.Pair.{Pair}
 use Rattle.tally.specs.Pairs.{inside, pairs, same, pair_at}
 use Rattle.tally.specs.Counts.{Counts, raised, larger, every, none_above}
-use Rattle.tally.proofs.Order.{inside_at, at_pairs, same_self, false_since}
+use Rattle.tally.proofs.Order.{inside_at, at_pairs, same_self}
 
 decides_none_above : (m : ℕ) (c : Counts) → Decides (none_above m c) ((n : ℕ) → n < pairs → c (pair_at n) ≤ m)
 unfolding none_above
@@ -34,4 +34,4 @@ bounded_larger m c d h k = bounded_from m (larger c d) (λ q i. omega (arith, bo
 pub raise_above : (fits : Counts → Bool) → ((c : Counts) (p : Pair) → inside p ≡ true → fits c ≡ true → c p ≤ 8191)
     → (c : Counts) (p : Pair) (n : ℕ) → inside p ≡ true → 8191 < n → fits (raised c p n) ≡ false
 raise_above fits bounds c p n i high =
-    false_since _ (λ e. omega (arith, bounds (raised c p n) p i e, cond-true (same p p) (max (c p) n) (c p) (same_self p)))
+    false_from_ne_true _ (λ e. omega (arith, bounds (raised c p n) p i e, cond-true (same p p) (max (c p) n) (c p) (same_self p)))

@@ -2,12 +2,12 @@
 use Rattle.std.proofs.Common.{◌≡◌, ℕ, ◌+◌, ◌<◌, ◌≤◌, Bool, true, false, cond, ltb, sym, refl, ap, ◌∙◌, ⊎_elim, arith}
 use mathlib.Core.Path.{fun_ext}
 use Rattle.std.proofs.lemmas.Bool.Decides.{nat_tests}
-use Rattle.std.proofs.lemmas.Bool.{cond-true, cond-false, cond_both, cases_Bool, cases_lt, ltb-true, ltb-false, lt-ltb, le-ltb, both_ways, and_from}
+use Rattle.std.proofs.lemmas.Bool.{false_from_ne_true, cond-true, cond-false, cond_both, cases_Bool, cases_lt, ltb-true, ltb-false, lt-ltb, le-ltb, both_ways, and_from}
 use Rattle.tally.specs.declared.pair.Pair.{Pair}
 use Rattle.tally.specs.Pairs.{inside, pairs, same, rank, pair_at}
 use Rattle.tally.specs.Counts.{Counts, none, raised, up_to}
 use Rattle.tally.specs.Answers.{refuses, verdict, raises}
-use Rattle.tally.proofs.Order.{false_since, rank_below, rank_at, at_rank, inside_at, same_is, same_self}
+use Rattle.tally.proofs.Order.{rank_below, rank_at, at_rank, inside_at, same_is, same_self}
 use Rattle.tally.proofs.Misfits.{first_misfit_is}
 
 -- the counts at the places below n, the others taken as 0
@@ -75,7 +75,7 @@ pub stopped : {A : Type 0} (a : A) (fits : Counts → Bool) → Lowers fits → 
     → fits (below c k) ≡ true → fits (below c (k + 1)) ≡ false → verdict fits c a ≡ refuses (pair_at k)
 stopped a fits lowers c k within so_far no_more =
     let up_to_below : (n : ℕ) → up_to c n ≡ below c (n + 1) = λ n. fun_ext (λ p. grind (arith, nat_tests)) in
-    let misfits : fits c ≡ false = false_since _ (λ e. both_ways _ no_more (lowers c (below c (k + 1)) (λ p i. below_le c (k + 1) p) e)) in
+    let misfits : fits c ≡ false = false_from_ne_true _ (λ e. both_ways _ no_more (lowers c (below c (k + 1)) (λ p i. below_le c (k + 1) p) e)) in
     cond-false _ _ _ misfits
     ∙ ap refuses (first_misfit_is fits c k within (ap fits (up_to_below k) ∙ no_more)
     (λ n l. lowers (below c k) (up_to c n) (λ p i. grind (arith, nat_tests)) so_far))
@@ -90,9 +90,9 @@ module _ (c : Counts) (ranged : Ranged c) (k : ℕ) (within : k < pairs) (d : Co
   refused a fits lowers own h =
       let fit : fits (below c k) ≡ true = ap fits (sym so_far) ∙ own in
       let misfit : fits (below c (k + 1)) ≡ false =
-      ap fits (sym raised_is) ∙ false_since _ (λ t. both_ways _ h (and_from _ _ (ap inside here ∙ inside_at k) t)) in
+      ap fits (sym raised_is) ∙ false_from_ne_true _ (λ t. both_ways _ h (and_from _ _ (ap inside here ∙ inside_at k) t)) in
       ap refuses here ∙ sym (stopped a fits lowers c k within fit misfit)
 
 pub ranged_raised : (c : Counts) (p : Pair) (n : ℕ) → inside p ≡ true → Ranged c → Ranged (raised c p n)
 ranged_raised c p n i ranged q o =
-    cond-false _ _ _ (false_since _ (λ s. both_ways _ o (ap inside (same_is q p s) ∙ i))) ∙ ranged q o
+    cond-false _ _ _ (false_from_ne_true _ (λ s. both_ways _ o (ap inside (same_is q p s) ∙ i))) ∙ ranged q o

@@ -1,5 +1,6 @@
 -- The counted pairs of a table, from a place of the order on.
 use Rattle.std.proofs.Common.{◌≡◌, ℕ, zero, suc, ◌+◌, ◌-◌, ◌<◌, ◌≤◌, true, false, cond, eqb, List, [], ◌∷◌, length, Some, None, Option, sym, refl, ap, ◌∙◌, ⊎_elim, add-zero, add-one, arith}
+use Rattle.std.proofs.lemmas.Option.{none-some, same_Some}
 use Rattle.std.proofs.lemmas.Bool.{cond-true, cond-false, cond_both, cases_Bool, cases_lt, eqb-true, eqb-false, eq-eqb, ne_eqb, le-leb, lt-leb}
 use Rattle.tally.specs.declared.pair.Pair.{Pair}
 use Rattle.tally.specs.Pairs.{inside, pairs, rank, pair_at, start, after}
@@ -92,16 +93,10 @@ pub record Comes (c : Counts) (k : ℕ) (q : Pair) (n : ℕ) : Type 0 where
   pub between : (i : ℕ) → k ≤ i → i < rank q → c (pair_at i) ≡ 0
   pub left : counted_on c k ≡ (q, n) ∷ counted_on c (rank q + 1)
 
-some_pair : (a q : Pair) (b n : ℕ) → ◌≡◌ {A = Option (Pair × ℕ)} (Some (a, b)) (Some (q, n)) → (a ≡ q) × (b ≡ n)
-some_pair a q b n h = let e : ◌≡◌ {A = Pair × ℕ} (a, b) (q, n) = cc in (ap (λ z. z.0) e, ap (λ z. z.1) e)
-
-never : {X : Type 0} (x : Pair × ℕ) → ◌≡◌ {A = Option (Pair × ℕ)} None (Some x) → X
-never x h = let z : ◌≡◌ {A = ℕ} 0 1 = cc in absurd (omega arith)
-
 module _ (c : Counts) (q : Pair) (n : ℕ) where
   -- m places are left from k on
   comes_by : (m k : ℕ) → k + m ≡ pairs → first (counted_on c k) ≡ Some (q, n) → Comes c k q n
-  comes_by zero k e h = never (q, n) (sym (ap first (rest_past c k (omega arith))) ∙ h)
+  comes_by zero k e h = absurd (none-some (q, n) (sym (ap first (rest_past c k (omega arith))) ∙ h))
   comes_by (suc m) k e h =
       ⊎_elim
       (λ (z : eqb (c (pair_at k)) 0 ≡ true).
@@ -121,7 +116,8 @@ module _ (c : Counts) (q : Pair) (n : ℕ) where
       (λ (z : eqb (c (pair_at k)) 0 ≡ false).
       let counts = eqb-false _ _ z in
       let s = rest_here c k (omega arith) counts in
-      let x = some_pair (pair_at k) q (c (pair_at k)) n (sym (ap first s) ∙ h) in
+      let pair = same_Some _ _ (sym (ap first s) ∙ h) in
+      let x : (pair_at k ≡ q) × (c (pair_at k) ≡ n) = (ap (λ z. z.0) pair, ap (λ z. z.1) pair) in
       let r : rank q ≡ k = ap rank (sym x.0) ∙ rank_at k (omega arith) in
       record {
         inn = ap inside (sym x.0) ∙ inside_at k;
@@ -137,7 +133,7 @@ module _ (c : Counts) (q : Pair) (n : ℕ) where
   comes_from k h =
       ⊎_elim
       (λ (l : k < pairs). comes_by (pairs - k) k (omega arith) h)
-      (λ (l : pairs ≤ k). never (q, n) (sym (ap first (rest_past c k l)) ∙ h))
+      (λ (l : pairs ≤ k). absurd (none-some (q, n) (sym (ap first (rest_past c k l)) ∙ h)))
       (cases_lt k pairs)
 
   -- what the next counted pair is
@@ -146,7 +142,7 @@ module _ (c : Counts) (q : Pair) (n : ℕ) where
 
 pub first_none : (xs : List (Pair × ℕ)) → first xs ≡ None → xs ≡ []
 first_none [] h = refl
-first_none (x ∷ xs) h = never x (sym h)
+first_none (x ∷ xs) h = absurd (none-some x (sym h))
 
 -- where there is none, nothing is left
 pub comes_not : (c : Counts) (p : Pair) → next_counted c p ≡ None → counted_on c (start p) ≡ []
@@ -161,7 +157,7 @@ zeros_by c (suc n) k e h i a b =
     (λ (l : k < i). zeros_by c n (k + 1) (omega arith) (sym (rest_zero c k (omega arith) (eqb-true _ _ z)) ∙ h) i (omega arith) b)
     (λ (l : i ≤ k). let e : i ≡ k = omega arith in ap (λ j. c (pair_at j)) e ∙ eqb-true _ _ z)
     (cases_lt k i))
-    (λ (z : eqb (c (pair_at k)) 0 ≡ false). never _ (sym (ap first (sym (rest_here c k (omega arith) (eqb-false _ _ z)) ∙ h))))
+    (λ (z : eqb (c (pair_at k)) 0 ≡ false). absurd (none-some _ (sym (ap first (sym (rest_here c k (omega arith) (eqb-false _ _ z)) ∙ h)))))
     (cases_Bool (eqb (c (pair_at k)) 0))
 
 -- where nothing is left from place k on, nothing is counted there

@@ -1,13 +1,9 @@
 -- Pairs and their places in the order.
-use Rattle.std.proofs.Common.{◌≡◌, ℕ, ◌+◌, ◌/◌, ◌%◌, ◌<◌, Bool, true, false, eqb, leb, sym, refl, ap, ◌∙◌, subst, ⊎_elim, arith}
-use Rattle.std.proofs.lemmas.Bool.{cond-true, and_parts, and_from, ltb-true, lt-ltb, eqb-true, eq-eqb, cases_Bool}
+use Rattle.std.proofs.Common.{◌≡◌, ℕ, ◌+◌, ◌/◌, ◌%◌, ◌<◌, true, false, eqb, leb, sym, refl, ap, ◌∙◌, subst, arith}
+use Rattle.std.proofs.lemmas.Bool.{false_from_ne_true, cond-true, and_parts, and_from, ltb-true, lt-ltb, eqb-true, eq-eqb}
 use Rattle.std.proofs.lemmas.Bool.Decides.{nat_tests}
 use Rattle.tally.specs.declared.pair.Pair.{Pair}
 use Rattle.tally.specs.Pairs.{inside, pairs, same, at_or_after, rank, pair_at, start, after}
-
--- a test that would follow from a wrong fact is false
-pub false_since : (b : Bool) → (b ≡ true → ⊥) → b ≡ false
-false_since b h = ⊎_elim (λ e. absurd (h e)) (λ e. e) (cases_Bool b)
 
 pub station_below : (p : Pair) → inside p ≡ true → p.station < 8
 station_below p h = ltb-true _ _ (and_parts _ _ h).0
@@ -43,7 +39,7 @@ pub same_self : (p : Pair) → same p p ≡ true
 same_self p = and_from _ _ (eq-eqb p.station _ refl) (eq-eqb p.handset _ refl)
 
 pub not_same : (p q : Pair) → (rank p ≡ rank q → ⊥) → same p q ≡ false
-not_same p q h = false_since _ (λ s. h (ap rank (same_is p q s)))
+not_same p q h = false_from_ne_true _ (λ s. h (ap rank (same_is p q s)))
 
 pub same_rank : (p q : Pair) → inside p ≡ true → inside q ≡ true → rank p ≡ rank q → p ≡ q
 same_rank p q i j e = sym (at_rank p i) ∙ ap pair_at e ∙ at_rank q j

@@ -2,11 +2,11 @@
 use Rattle.std.proofs.Common.{◌≡◌, ℕ, zero, suc, ◌+◌, ◌-◌, ◌<◌, ◌≤◌, max, true, false, cond, eqb, List, [], ◌∷◌, ◌++◌, sym, refl, ap, ◌∙◌, ap₂, ⊎_elim, add-zero, zero-add, arith}
 use mathlib.Core.Path.{fun_ext}
 use Rattle.std.proofs.lemmas.List.{append-nil}
-use Rattle.std.proofs.lemmas.Bool.{cond-true, cond-false, cond_both, cases_Bool, eqb-true, both_ways}
+use Rattle.std.proofs.lemmas.Bool.{false_from_ne_true, cond-true, cond-false, cond_both, cases_Bool, eqb-true, both_ways}
 use Rattle.tally.specs.declared.pair.Pair.{Pair}
 use Rattle.tally.specs.Pairs.{inside, pairs, same, rank, pair_at}
 use Rattle.tally.specs.Counts.{Counts, raised, counted_from, counted_pairs, counted_on, count_of}
-use Rattle.tally.proofs.Order.{inside_at, rank_at, at_rank, rank_below, not_same, same_is, same_self, false_since}
+use Rattle.tally.proofs.Order.{inside_at, rank_at, at_rank, rank_below, not_same, same_is, same_self}
 use Rattle.tally.proofs.Building.{Ranged}
 use Rattle.tally.proofs.Listing.{rest_here, rest_past, rest_skip}
 
@@ -112,7 +112,7 @@ module _ (c : Counts) (p : Pair) where
 pub counted_ranged : (c : Counts) → Ranged (count_of (counted_pairs c))
 unfolding counted_pairs
 counted_ranged c p o =
-    absent c p pairs 0 (omega arith) (λ j a b. false_since _ (λ s. both_ways _ o (ap inside (same_is p (pair_at j) s) ∙ inside_at j)))
+    absent c p pairs 0 (omega arith) (λ j a b. false_from_ne_true _ (λ s. both_ways _ o (ap inside (same_is p (pair_at j) s) ∙ inside_at j)))
 
 -- a table is what its counted pairs count
 pub count_of_counted : (c : Counts) → Ranged c → count_of (counted_pairs c) ≡ c

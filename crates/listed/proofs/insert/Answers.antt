@@ -1,5 +1,4 @@
-use Rattle.std.proofs.Common.{arith, rules}
-use Rattle.std.proofs.lemmas.Slice.{overwrites}
+use Rattle.std.proofs.Common.{arith}
 use Rattle.listed.proofs.Shifts.{rotated, shifted}
 use Rattle.listed.proofs.insert.Goals as goal
 
@@ -9,8 +8,5 @@ returns c =
     let n = c.args.len in
     let at = c.args.at in
     let x = c.args.entry in
-    record {
-      sized = search (rules, overwrites);
-      holds = shifted xs n at x c.requires.within (omega arith) c.rotate_right.new.self _
-          (rotated xs n at x c.requires.within (omega arith) c.rotate_right.new.self c.rotate_right.ensures.after);
-    }
+    shifted xs n at x c.requires.within (omega arith) c.rotate_right.new.self _
+    (rotated xs n at x c.requires.within (omega arith) c.rotate_right.new.self c.rotate_right.ensures.after)

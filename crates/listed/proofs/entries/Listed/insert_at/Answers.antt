@@ -12,16 +12,15 @@ insert-requires c =
     record {
       within = omega (arith, c.requires.sought.here, seek_le (rank c.args.pair) (listed t), length-take t.len t.entries);
       room = c.requires.room;
-      sized = t.sized;
     }
 
 pub invariant_of-self : goal.invariant_of-self
 invariant_of-self c =
     let new = insert_kept c.args.self.now c.args.pair c.args.at c.args.number c.requires.sought c.requires.low c.requires.absent c.requires.some
-    (take (c.args.self.now.len + 1) c.insert.new.entries) c.insert.ensures.holds in
-    record { sized = c.insert.ensures.sized; few = omega arith; ordered = new.ordered; low = new.low }
+    (take (c.args.self.now.len + 1) c.insert.new.entries) c.insert.ensures in
+    record { few = omega arith; ordered = new.ordered; low = new.low }
 
 pub returns : goal.returns
 returns c =
     (insert_kept c.args.self.now c.args.pair c.args.at c.args.number c.requires.sought c.requires.low c.requires.absent c.requires.some
-    (take (c.args.self.now.len + 1) c.insert.new.entries) c.insert.ensures.holds).counts
+    (take (c.args.self.now.len + 1) c.insert.new.entries) c.insert.ensures).counts

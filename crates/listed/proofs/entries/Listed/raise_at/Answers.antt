@@ -1,5 +1,3 @@
-use Rattle.std.proofs.Common.{◌∙◌}
-use Rattle.std.proofs.lemmas.List.{length-set}
 use Rattle.listed.proofs.Raising.{raise_kept}
 use Rattle.listed.proofs.entries.Listed.raise_at.Goals as goal
 
@@ -7,7 +5,7 @@ pub invariant_of-self : goal.invariant_of-self
 invariant_of-self c =
     let t = c.args.self.now in
     let new = raise_kept t c.args.pair c.args.at c.args.number c.requires.sought c.requires.low c.requires.within c.requires.there c.max.result c.max.ensures in
-    record { sized = length-set t.entries c.args.at _ ∙ t.sized; few = t.few; ordered = new.ordered; low = new.low }
+    record { few = t.few; ordered = new.ordered; low = new.low }
 
 pub returns : goal.returns
 returns c =
