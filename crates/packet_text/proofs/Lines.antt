@@ -1,5 +1,5 @@
 -- A line asks at most one thing.
-use Rattle.std.proofs.Common.{◌≡◌, ℕ, List, ◌++◌, get_or, drop, codes, sym, refl, ap, ◌∙◌, arith}
+use Rattle.std.proofs.Common.{◌≡◌, ℕ, List, ◌++◌, get_or, drop, IfOk, Ok, Err, Result, codes, sym, refl, ap, ◌∙◌, arith}
 use Rattle.packet_text.specs.declared.line.TallyKind.{TallyKind}
 use Rattle.packet_text.specs.declared.line.TallyKind.TheVariants.{Full, Listed}
 use Rattle.packet_text.specs.declared.line.BodyKind.{BodyKind}
@@ -32,3 +32,8 @@ module _ (line text : List ℕ) where
 
   pub answers_other : ((a : Asked) → Asks line a → ⊥) → text ≡ codes "bad" → Answers line text
   answers_other none e = record { asked = λ a p. absurd (none a p); other = λ _. e }
+
+-- a text that may be refused for want of memory
+pub answers_asked_if : {X Y : Type 0} (r : Result X Y) (line : List ℕ) (text : X → List ℕ) (a : Asked) → Asks line a → IfOk r (λ x. text x ≡ reply a) → IfOk r (λ x. Answers line (text x))
+answers_asked_if (Ok x) line text a p e = answers_asked line (text x) a p e
+answers_asked_if (Err y) line text a p e = e

@@ -4,7 +4,8 @@
 --   pair_text      a counted pair: its station, handset and count
 --   code_text      a call code, by its two bytes
 --   note_text      a note, in quotes
---   accepted_text  an accepted message: its head, the number of its pairs, the pairs, its body, and what it packs to in hex digits
+--   message_text   a message and some bytes: its head, the number of its pairs, the pairs, its body, and the bytes in hex digits
+--   accepted_text  an accepted message, and what it packs to
 --   refused_text   a refusal: its number and byte place, and the pair that it names, if any
 --   outcome_text   what is printed of the answer to a packet
 use Rattle.std.specs.Prelude.{ℕ, ◌+◌, ◌*◌, List, ◌∷◌, ◌++◌, Some, None, Ok, Err, codes, decimal, Option, Result, slice_index}
@@ -33,10 +34,14 @@ abbrev pub head_text : Head → ℕ → List ℕ
 head_text h pairs =
     codes "ok" ++ (number h.station ++ (number h.sender ++ (number h.addressee ++ (number h.name ++ number pairs))))
 
--- of a message with a body of a given kind, printed by a given text
+-- of a message with a body printed by a given text, and of some bytes
+abbrev pub message_text : (List ℕ → List ℕ) → Content → List ℕ → List ℕ
+message_text text m bs =
+    head_text m.head (counted m.counts) ++ (flat_map pair_text (counted_pairs m.counts) ++ (text m.body ++ (codes " " ++ hex_text bs)))
+
+-- the same with the packet of the message, with a body of a given kind
 abbrev pub accepted_text : ℕ → (List ℕ → List ℕ) → Content → List ℕ
-accepted_text kind text m =
-    head_text m.head (counted m.counts) ++ (flat_map pair_text (counted_pairs m.counts) ++ (text m.body ++ (codes " " ++ hex_text (packet_bytes kind m))))
+accepted_text kind text m = message_text text m (packet_bytes kind m)
 
 -- a byte place, and the pair behind it, if any
 abbrev pub place_text : ℕ → Option Pair → List ℕ

@@ -7,7 +7,7 @@ ghost use Rattle.packet.specs.Faults.{tells};
 ghost use Rattle.packet.specs.Messages.{meaning};
 ghost use Rattle.packet.specs.Reading.{reading};
 ghost use Rattle.packet_text.specs.Hex.{hex_text};
-ghost use Rattle.packet_text.specs.Printing.{pair_text, code_text, note_text, accepted_text, refused_text, outcome_text};
+ghost use Rattle.packet_text.specs.Printing.{pair_text, code_text, note_text, message_text, accepted_text, refused_text, outcome_text};
 ghost use Rattle.packet_text.specs.Lines.{kind_of, lawful_of, text_of, reply};
 
 use crate::line::{BodyKind, TallyKind};
@@ -27,7 +27,7 @@ impl fmt::Display for Hex<'_> {
     ghost output = { λ hex. Some (hex_text hex.0.now) };
 
     fn fmt<W: fmt::Write>(&self, f: &mut fmt::Formatter<W>) -> fmt::Result {
-        for byte in self.0 {
+        for &byte in self.0 {
             write!(f, "{byte:02x}")?;
         }
         Ok(())
@@ -89,31 +89,33 @@ impl<B: Printed> fmt::Display for Told<'_, B> {
     }
 }
 
-// The most bytes of a packet: 256 pairs, and a body of 255 bytes.
-const LONGEST_PACKET: usize = 1293;
-
-// A message that a packet carries.
+// A message that is accepted, and its packet.
 #[derive(Drop)]
-struct Accepted<'a, T, B>(&'a Message<T, B>);
+struct Accepted<'a, T, B> {
+    message: &'a Message<T, B>,
+    packet: &'a [u8],
+}
 
 impl<T: CountedPairs, B: Printed> fmt::Display for Accepted<'_, T, B> {
-    ghost output = { λ accepted. Some (accepted_text B.Body.kind B.Printed.text (meaning T.Tally.counts B.Body.bytes accepted.0.now)) };
+    ghost output = { λ shown. Some (message_text B.Printed.text (meaning T.Tally.counts B.Body.bytes shown.message.now) shown.packet.now) };
 
     fn fmt<W: fmt::Write>(&self, f: &mut fmt::Formatter<W>) -> fmt::Result {
-        let mut packet = [0; LONGEST_PACKET];
-        let Ok(length) = packet_write::pack(self.0, &mut packet) else {
-            unreachable()
-        };
         let Head {
             station,
             sender,
             addressee,
             name,
-        } = self.0.head();
-        let tag = self.0.tag();
+        } = self.message.head();
+        let tag = self.message.tag();
         let pairs = tag.counted();
         write!(f, "ok {station} {sender} {addressee} {name} {pairs}")?;
-        write!(f, "{}{} {}", Pairs(tag), Told(self.0.body()), Hex(&packet[..length]))
+        write!(
+            f,
+            "{}{} {}",
+            Pairs(tag),
+            Told(self.message.body()),
+            Hex(self.packet)
+        )
     }
 }
 
@@ -133,18 +135,43 @@ impl fmt::Display for Refused {
     }
 }
 
+// The most bytes of a packet: 256 pairs, and a body of 255 bytes.
+const LONGEST_PACKET: usize = 1293;
+
+// What is printed of a message that is accepted.
+fn show<T: CountedPairs, B: Printed>(
+    heap: Global,
+    message: &Message<T, B>,
+) -> Result<String, AllocError>
+    ensures { IfOk result (λ text. string_bytes text ≡ accepted_text B.Body.kind B.Printed.text (meaning T.Tally.counts B.Body.bytes message.now)) }
+{
+    let mut packet = [0; LONGEST_PACKET];
+    let Ok(length) = packet_write::pack(message, &mut packet) else {
+        unreachable()
+    };
+    let accepted = Accepted {
+        message,
+        packet: &packet[..length],
+    };
+    format!(in heap; "{accepted}")
+}
+
 // What is printed of a packet that is read with some kind of tally and of body.
 fn outcome<T: CountedPairs, B: Printed>(heap: Global, packet: &[u8]) -> Result<String, AllocError>
     ensures { IfOk result (λ text. string_bytes text ≡ outcome_text B.Body.kind B.Printed.text (reading B.Body.kind B.Body.lawful T.Tally.fits packet.now)) }
 {
     match packet_read::read::<T, B>(packet) {
-        Ok(message) => format!(in heap; "{}", Accepted(&message)),
+        Ok(message) => show(heap, &message),
         Err(fault) => format!(in heap; "{}", Refused(fault)),
     }
 }
 
 // The same, where the kind of body is asked for.
-fn outcome_of<T: CountedPairs>(heap: Global, body: BodyKind, packet: &[u8]) -> Result<String, AllocError>
+fn outcome_of<T: CountedPairs>(
+    heap: Global,
+    body: BodyKind,
+    packet: &[u8],
+) -> Result<String, AllocError>
     ensures { IfOk result (λ text. string_bytes text ≡ outcome_text (kind_of body) (text_of body) (reading (kind_of body) (lawful_of body) T.Tally.fits packet.now)) }
 {
     match body {
@@ -154,7 +181,12 @@ fn outcome_of<T: CountedPairs>(heap: Global, body: BodyKind, packet: &[u8]) -> R
 }
 
 // What is printed of a packet by the kinds that are asked for.
-pub(crate) fn reply(heap: Global, tally: TallyKind, body: BodyKind, packet: &[u8]) -> Result<String, AllocError>
+pub(crate) fn reply(
+    heap: Global,
+    tally: TallyKind,
+    body: BodyKind,
+    packet: &[u8],
+) -> Result<String, AllocError>
     ensures { IfOk result (λ text. string_bytes text ≡ reply (record { tally = tally; body = body; packet = packet.now })) }
 {
     match tally {
