@@ -1,18 +1,20 @@
 -- Lines that carry a packet: a kind of tally, a kind of body and the packet's bytes in hex digits, after one space each.
 --
 --   Asked      what a line asks: that the packet be read with a kind of tally and a kind of body
+--   asked_of   what the program's record of a line asks
 --   line_text  the line that asks it
 --   Asks       a line of at most 4,096 bytes asks it
 --   reply      what is printed of it
 --   Answers    a line is answered with a text: the reply to what it asks, and "bad" where it asks nothing
 use Rattle.std.specs.Prelude.{◌≡◌, ℕ, ◌<◌, ◌≤◌, Bool, List, ◌++◌, length, codes}
-use Rattle.std.specs.List.{AllByRecursion}
+use Rattle.std.specs.List.{All}
 use Rattle.full.specs.Cells.{full_fits}
 use Rattle.listed.specs.Entries.{listed_fits}
 use Rattle.body.specs.Codes.{code_lawful}
 use Rattle.body.specs.Printable.{note_lawful}
 use Rattle.tally.specs.Counts.{Counts}
 use Rattle.packet.specs.Reading.{reading}
+use Rattle.packet_text.specs.declared.line.Asked.{Asked as AskedRecord}
 use Rattle.packet_text.specs.declared.line.TallyKind.{TallyKind}
 use Rattle.packet_text.specs.declared.line.TallyKind.TheVariants.{Full, Listed}
 use Rattle.packet_text.specs.declared.line.BodyKind.{BodyKind}
@@ -24,6 +26,10 @@ pub record Asked : Type 0 where
   pub tally : TallyKind
   pub body : BodyKind
   pub packet : List ℕ
+
+-- what the program's own record of it says
+abbrev pub asked_of : AskedRecord → Asked
+asked_of a = record { tally = a.tally; body = a.body; packet = a.packet.items }
 
 abbrev pub tally_word : TallyKind → List ℕ
 tally_word Full = codes "full "
@@ -38,7 +44,7 @@ line_text a = tally_word a.tally ++ (body_word a.body ++ hex_text a.packet)
 
 pub record Asks (line : List ℕ) (a : Asked) : Type 0 where
   pub is : line ≡ line_text a
-  pub bytes : AllByRecursion (λ b. b < 256) a.packet
+  pub bytes : All (λ b. b < 256) a.packet
   pub short : length line ≤ 4096
 
 abbrev pub fits_of : TallyKind → Counts → Bool

@@ -14,9 +14,8 @@ mod printing;
 pub fn answer(heap: Global, line: &[u8]) -> Result<String, AllocError>
     ensures { IfOk result (λ text. Answers line.now (string_bytes text)) }
 {
-    let mut packet = [0; 2048];
-    match asking::asked(line, &mut packet) {
-        Some((tally, body, length)) => printing::reply(heap, tally, body, &packet[..length]),
+    match asking::asked(line) {
+        Some(asked) => printing::reply(heap, &asked),
         None => format!(in heap; "bad"),
     }
 }

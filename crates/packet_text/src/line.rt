@@ -1,3 +1,5 @@
+use arrayvec::ArrayVec;
+
 // The kind of tally with which a packet is to be read.
 #[derive(Clone, Copy)]
 pub enum TallyKind {
@@ -10,4 +12,12 @@ pub enum TallyKind {
 pub enum BodyKind {
     Code,
     Note,
+}
+
+// What a line asks: that a packet be read with a kind of tally and a kind of body.
+#[derive(Drop)]
+pub struct Asked {
+    pub tally: TallyKind,
+    pub body: BodyKind,
+    pub packet: ArrayVec<u8, 2048>,
 }

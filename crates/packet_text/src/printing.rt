@@ -8,9 +8,9 @@ ghost use Rattle.packet.specs.Messages.{meaning};
 ghost use Rattle.packet.specs.Reading.{reading};
 ghost use Rattle.packet_text.specs.Hex.{hex_text};
 ghost use Rattle.packet_text.specs.Printing.{pair_text, code_text, note_text, message_text, accepted_text, refused_text, outcome_text};
-ghost use Rattle.packet_text.specs.Lines.{kind_of, lawful_of, text_of, reply};
+ghost use Rattle.packet_text.specs.Lines.{kind_of, lawful_of, text_of, reply, asked_of};
 
-use crate::line::{BodyKind, TallyKind};
+use crate::line::{Asked, BodyKind, TallyKind};
 use body::{Body, CallCode, Note};
 use full::Full;
 use listed::Listed;
@@ -180,17 +180,12 @@ fn outcome_of<T: CountedPairs>(
     }
 }
 
-// What is printed of a packet by the kinds that are asked for.
-pub(crate) fn reply(
-    heap: Global,
-    tally: TallyKind,
-    body: BodyKind,
-    packet: &[u8],
-) -> Result<String, AllocError>
-    ensures { IfOk result (λ text. string_bytes text ≡ reply (record { tally = tally; body = body; packet = packet.now })) }
+// What is printed of what is asked for.
+pub(crate) fn reply(heap: Global, asked: &Asked) -> Result<String, AllocError>
+    ensures { IfOk result (λ text. string_bytes text ≡ reply (asked_of asked.now)) }
 {
-    match tally {
-        TallyKind::Full => outcome_of::<Full>(heap, body, packet),
-        TallyKind::Listed => outcome_of::<Listed>(heap, body, packet),
+    match asked.tally {
+        TallyKind::Full => outcome_of::<Full>(heap, asked.body, &asked.packet),
+        TallyKind::Listed => outcome_of::<Listed>(heap, asked.body, &asked.packet),
     }
 }
