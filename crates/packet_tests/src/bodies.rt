@@ -20,9 +20,7 @@ fn call_codes(rt: HostRuntime) -> Result<(), Fail> {
 
 #[test]
 fn notes(rt: HostRuntime) -> Result<(), Fail> {
-    let Some(note) = Note::read(b"seen to") else {
-        return Err(Fail::new("refused"));
-    };
+    let note = Note::read(b"seen to").ok_or("refused")?;
     assert_eq!(rt; Note::kind(), 2);
     assert_eq!(rt; note.size(), 7);
     let mut out = [0; 9];

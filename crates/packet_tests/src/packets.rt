@@ -37,12 +37,10 @@ fn bytes() -> [u8; 20] {
 
 #[test]
 fn packs(rt: HostRuntime) -> Result<(), Fail> {
-    let Some(message) = Message::new(HEAD, tag(&rt), CallCode { value: 500 }) else {
-        return Err(Fail::new("out of range"));
-    };
+    let message = Message::new(HEAD, tag(&rt), CallCode { value: 500 }).ok_or("out of range")?;
     // what lies behind the packet is kept
     let mut out = [7; 22];
-    assert_eq!(rt; pack(&message, &mut out).ok().ok_or("refused")?, 20);
+    assert_eq!(rt; pack(&message, &mut out), Ok(20));
     assert!(rt; out[..20] == bytes()[..]);
     assert!(rt; out[20..] == [7, 7]);
     Ok(())
@@ -50,44 +48,39 @@ fn packs(rt: HostRuntime) -> Result<(), Fail> {
 
 #[test]
 fn wants_a_buffer_long_enough(rt: HostRuntime) -> Result<(), Fail> {
-    let Some(message) = Message::new(HEAD, tag(&rt), CallCode { value: 500 }) else {
-        return Err(Fail::new("out of range"));
-    };
+    let message = Message::new(HEAD, tag(&rt), CallCode { value: 500 }).ok_or("out of range")?;
     let mut out = [7; 19];
-    match pack(&message, &mut out) {
-        Ok(_) => Err(Fail::new("it was granted")),
-        Err(fault) => {
-            assert_eq!(rt; fault.number(), 40);
-            assert!(rt; out == [7; 19]);
-            Ok(())
-        }
-    }
+    let fault = pack(&message, &mut out).err().ok_or("it was granted")?;
+    assert_eq!(rt; fault.number(), 40);
+    assert!(rt; out == [7; 19]);
+    Ok(())
 }
 
 #[test]
 fn reads(rt: HostRuntime) -> Result<(), Fail> {
-    match read::<Listed, CallCode>(&bytes()) {
-        Ok(message) => {
-            assert!(rt; message.head() == HEAD);
-            assert_eq!(rt; message.body().value, 500);
-            let sent = message.tag().count(Pair {
-                station: 0,
-                handset: 9,
-            });
-            assert_eq!(rt; sent, 3);
-            Ok(())
-        }
-        Err(_) => Err(Fail::new("it was refused")),
-    }
+    let Ok(message) = read::<Listed, CallCode>(&bytes()) else {
+        return Err(Fail::new("it was refused"));
+    };
+    assert_eq!(rt; message.head(), HEAD);
+    assert_eq!(rt; message.body().value, 500);
+    let sent = message.tag().count(Pair {
+        station: 0,
+        handset: 9,
+    });
+    assert_eq!(rt; sent, 3);
+    Ok(())
 }
 
 // A handset does not write to itself, and there is no ninth station.
 #[test]
 fn only_messages_in_range(rt: HostRuntime) {
-    let mut head = HEAD;
-    head.addressee = 5;
-    assert!(rt; Message::new(head, tag(&rt), CallCode { value: 500 }).is_none());
-    let mut head = HEAD;
-    head.station = 8;
-    assert!(rt; Message::new(head, tag(&rt), CallCode { value: 500 }).is_none());
+    for head in [
+        Head {
+            addressee: 5,
+            ..HEAD
+        },
+        Head { station: 8, ..HEAD },
+    ] {
+        assert!(rt; Message::new(head, tag(&rt), CallCode { value: 500 }).is_none());
+    }
 }

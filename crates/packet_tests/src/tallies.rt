@@ -1,28 +1,21 @@
 use full::Full;
 use listed::Listed;
 use std::process::Abort;
-use std::test::Fail;
 use tally::{CountedPairs, Pair, Refusal, Tally};
 
 fn pair(station: u8, handset: u8) -> Pair {
     Pair { station, handset }
 }
 
-fn refused(rt: &impl Abort, answer: Result<(), Refusal>, at: Pair) -> Result<(), Fail> {
-    match answer {
-        Ok(()) => Err(Fail::new("it was granted")),
-        Err(refusal) => {
-            assert!(rt; refusal.pair == at);
-            Ok(())
-        },
-    }
+fn refused(rt: &impl Abort, answer: Result<(), Refusal>, at: Pair) {
+    assert_eq!(rt; answer, Err(Refusal { pair: at }));
 }
 
 fn granted(rt: &impl Abort, answer: Result<(), Refusal>) {
     assert!(rt; answer.is_ok());
 }
 
-// Room 2 has sent 17 messages to handset 9, and room 0 three.
+// Station 2 has sent 17 messages to handset 9, and station 0 three.
 fn counts<T: CountedPairs>(rt: &impl Abort) {
     let mut seen = T::blank();
     assert_eq!(rt; seen.counted(), 0);
@@ -42,16 +35,15 @@ fn counts<T: CountedPairs>(rt: &impl Abort) {
 }
 
 // A refusal names the pair and leaves the counts.
-fn refuses<T: CountedPairs>(rt: &impl Abort) -> Result<(), Fail> {
+fn refuses<T: CountedPairs>(rt: &impl Abort) {
     let mut seen = T::blank();
     granted(rt, seen.raise(pair(7, 31), 8191));
-    refused(rt, seen.raise(pair(7, 31), 8192), pair(7, 31))?;
-    refused(rt, seen.raise(pair(8, 0), 1), pair(8, 0))?;
-    refused(rt, seen.raise(pair(0, 32), 1), pair(0, 32))?;
-    refused(rt, seen.raise(pair(3, 4), 65535), pair(3, 4))?;
+    refused(rt, seen.raise(pair(7, 31), 8192), pair(7, 31));
+    refused(rt, seen.raise(pair(8, 0), 1), pair(8, 0));
+    refused(rt, seen.raise(pair(0, 32), 1), pair(0, 32));
+    refused(rt, seen.raise(pair(3, 4), 65535), pair(3, 4));
     assert_eq!(rt; seen.count(pair(7, 31)), 8191);
     assert_eq!(rt; seen.counted(), 1);
-    Ok(())
 }
 
 // Each of two has the larger count somewhere.
@@ -70,48 +62,45 @@ fn joins<T: CountedPairs>(rt: &impl Abort) {
 }
 
 #[test]
-fn full(rt: HostRuntime) -> Result<(), Fail> {
+fn full(rt: HostRuntime) {
     counts::<Full>(&rt);
-    refuses::<Full>(&rt)?;
+    refuses::<Full>(&rt);
     joins::<Full>(&rt);
-    Ok(())
 }
 
 #[test]
-fn listed(rt: HostRuntime) -> Result<(), Fail> {
+fn listed(rt: HostRuntime) {
     counts::<Listed>(&rt);
-    refuses::<Listed>(&rt)?;
+    refuses::<Listed>(&rt);
     joins::<Listed>(&rt);
-    Ok(())
 }
 
 // Raises the first `pairs` pairs to 1.
 fn first<T: Tally>(rt: &impl Abort, pairs: usize) -> T {
     let mut seen = T::blank();
-    for place in 0..pairs {
-        granted(rt, seen.raise(Pair::at(place), 1));
+    for pair in (0..pairs).map(Pair::at) {
+        granted(rt, seen.raise(pair, 1));
     }
     seen
 }
 
 // A listed tally has room for 96 pairs: a 97th is refused at the last of the 97, wherever it comes in.
 #[test]
-fn the_97th_pair(rt: HostRuntime) -> Result<(), Fail> {
+fn the_97th_pair(rt: HostRuntime) {
     let mut seen = first::<Listed>(&rt, 96);
-    refused(&rt, seen.raise(pair(3, 0), 1), pair(3, 0))?;
-    refused(&rt, seen.raise(pair(7, 31), 1), pair(7, 31))?;
+    refused(&rt, seen.raise(pair(3, 0), 1), pair(3, 0));
+    refused(&rt, seen.raise(pair(7, 31), 1), pair(7, 31));
     assert_eq!(rt; seen.counted(), 96);
 
     // those from (0, 1) to (3, 0), and then (0, 0)
     let mut later = Listed::blank();
-    for place in 1..97 {
-        granted(&rt, later.raise(Pair::at(place), 1));
+    for pair in (1..97).map(Pair::at) {
+        granted(&rt, later.raise(pair, 1));
     }
-    refused(&rt, later.raise(pair(0, 0), 1), pair(3, 0))?;
-    refused(&rt, later.join(&seen), pair(3, 0))?;
+    refused(&rt, later.raise(pair(0, 0), 1), pair(3, 0));
+    refused(&rt, later.join(&seen), pair(3, 0));
     assert_eq!(rt; later.count(pair(0, 0)), 0);
 
     let all = first::<Full>(&rt, 256);
     assert_eq!(rt; all.counted(), 256);
-    Ok(())
 }
