@@ -46,12 +46,10 @@ fn earlier(x: Entry, y: Entry) -> Entry
 fn front(a: &[Entry], b: &[Entry]) -> Option<Entry>
     ensures { result ≡ merged_front a.now b.now }
 {
-    match a {
-        [] => b.first().copied(),
-        [x, ..] => match b {
-            [] => Some(*x),
-            [y, ..] => Some(earlier(*x, *y)),
-        },
+    match (a, b) {
+        ([x, ..], [y, ..]) => Some(earlier(*x, *y)),
+        ([x, ..], []) | ([], [x, ..]) => Some(*x),
+        ([], []) => None,
     }
 }
 
