@@ -2,17 +2,15 @@
 ghost use Rattle.std.specs.Prelude.{◌≡◌, ℕ, ◌-◌, ◌≤◌, ◌&&◌, ◌++◌, length, replicate, nat_le};
 ghost use Rattle.body.specs.Printable.{printable, note_lawful};
 ghost use Rattle.body.specs.Notes.{note_bytes};
-ghost use Rattle.body.specs.Laws.{told_once};
+ghost use Rattle.body.specs.Laws.{told_short, told_lawful, told_once};
 ghost use Rattle.std.proofs.Common.{rules};
 
 use crate::note::Note;
 use crate::{Body, ShortBuffer, write_over};
+use shortlist::ShortList;
 
 // the number of this kind of body
 const KIND: u8 = 2;
-
-// the most bytes of a note
-const MOST: usize = 24;
 
 // Is every byte from 32 to 126?
 fn all_printable(told: &[u8]) -> bool
@@ -21,22 +19,12 @@ fn all_printable(told: &[u8]) -> bool
     told.iter().all(|b| matches!(b, b' '..=b'~'))
 }
 
-// Some bytes, and 0 past them.
-fn padded(told: &[u8]) -> [u8; 24]
-    requires { length told.now ≤ 24 }
-    ensures { result ≡ told.now ++ replicate (24 - length told.now) 0 }
-{
-    let mut text = [0; 24];
-    text[..told.len()].copy_from_slice(told);
-    text
-}
-
 impl Note {
     // The note's bytes.
     pub fn text(&self) -> &[u8]
         ensures { result.now ≡ note_bytes self.now }
     {
-        &self.text[..self.len]
+        self.text.as_slice()
     }
 }
 
@@ -49,9 +37,9 @@ impl Body for Note {
 
     ghost ranged = { Prim.search rules };
 
-    ghost short = { Prim.search rules };
+    ghost short = { told_short };
 
-    ghost own = { Prim.search rules };
+    ghost own = { told_lawful };
 
     ghost one = { told_once };
 
@@ -60,7 +48,7 @@ impl Body for Note {
     }
 
     fn size(&self) -> u8 {
-        self.len as u8
+        self.text.len() as u8
     }
 
     fn write(&self, out: &mut [u8]) -> Result<(), ShortBuffer> {
@@ -68,12 +56,11 @@ impl Body for Note {
     }
 
     fn read(told: &[u8]) -> Option<Note> {
-        if told.len() > MOST || !all_printable(told) {
+        if !all_printable(told) {
             return None;
         }
         Some(Note {
-            text: padded(told),
-            len: told.len(),
+            text: ShortList::from_slice(told, 0)?,
         })
     }
 }

@@ -1,7 +1,6 @@
 pub mod Keeping
 pub mod Seeking
 pub mod Searching
-pub mod Shifts
 pub mod Raising
 pub mod Merges
 pub mod Joining

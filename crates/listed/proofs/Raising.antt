@@ -1,9 +1,8 @@
 -- A list in order, with one of its pairs raised or one put in.
 use Rattle.std.proofs.Common.{◌≡◌, ℕ, ◌+◌, ◌<◌, ◌≤◌, max, true, false, List, ◌∷◌, ◌++◌, length, get_or, take, drop, set, sym, refl, ap, ◌∙◌, subst, arith}
-use Rattle.std.specs.Prelude.{Ok, Err, Result, MatchResult}
+use Rattle.std.specs.Prelude.{Ok, Err, Result, MatchResult, OnOk, OnErr}
 use mathlib.Core.Path.{fun_ext}
-use lib.Seq.{take-set-lt}
-use Rattle.std.proofs.lemmas.List.{take-append-drop, set_at, get_or_at, length-take, length-take-le, get_or-take}
+use Rattle.std.proofs.lemmas.List.{take-append-drop, set_at, get_or_at, length-take-le}
 use Rattle.std.proofs.lemmas.List.Edits.{length-insert}
 use Rattle.std.proofs.lemmas.Bool.{both_ways, eqb-true, eq-eqb, not-false, not_from_true, and_right, lt-leb, cond_both}
 use Rattle.tally.specs.declared.pair.Pair.{Pair}
@@ -14,13 +13,23 @@ use Rattle.tally.proofs.Bounds.{bounded_raised}
 use Rattle.tally.proofs.Building.{ranged_raised}
 use Rattle.tally.proofs.Listing.{rest_here, rest_zero}
 use Rattle.tally.proofs.Splitting.{before, raised_between}
-use Rattle.listed.specs.declared.entries.Listed.{Listed}
+use Rattle.shortlist.proofs.Items.{most_items}
+use mathlib.Core.HLevel.{is_prop→PathP}
+use denote.Struct.Props.{props}
+use Rattle.shortlist.specs.declared.list.ShortList.{ShortList}
+use Rattle.shortlist.specs.declared.ListFull.{ListFull}
+use Rattle.shortlist.specs.Items.{items, adding}
+use Rattle.std.specs.Result.{is_ok}
+use Rattle.std.proofs.Common.{⊎_elim, eqb}
+use Rattle.std.proofs.lemmas.Result.{MatchResult-at_ok}
+use Rattle.std.proofs.lemmas.Bool.{cases_Bool, cond-false}
+use Rattle.listed.specs.declared.entries.Listed.{Listed, ordered-type, low-type}
 use Rattle.listed.specs.Entries.{InOrder, listed_fits, seek, no_entry}
 use Rattle.listed.specs.Listing.{listed, sought, Sought}
 use Rattle.listed.specs.Merging.{heads}
 use Rattle.listed.specs.Laws.{in_order_ranged, in_order_fits}
 use Rattle.listed.proofs.Keeping.{Kept, kept}
-use Rattle.listed.proofs.Searching.{found_there, absent_there, within_since}
+use Rattle.listed.proofs.Searching.{found_there, absent_there}
 use Rattle.listed.proofs.Seeking.{seek_le, sought as sought_parts, heads_rest}
 
 -- at is the position at which the pair p is sought in es
@@ -77,16 +86,13 @@ module _ (t : Listed) (p : Pair) (at n : ℕ) (sought_there : Sought (listed t) 
       (ranged_raised (count_of (listed t)) p n sought_there.in_range (in_order_ranged (listed t) t.ordered))
       (bounded_raised 8191 (count_of (listed t)) p n low t.low)
 
-  pub raise_kept : at < t.len → heads p (drop at (listed t)) ≡ true → (m : ℕ) → m ≡ max (get_or t.entries at no_entry).1 n
-      → Kept (take t.len (set t.entries at (p, m))) (raised (count_of (listed t)) p n)
-  raise_kept within there m most =
+  pub raise_kept : heads p (drop at (listed t)) ≡ true → (m : ℕ) → m ≡ max (get_or (listed t) at no_entry).1 n
+      → (zs : List (Pair × ℕ)) → zs ≡ set (listed t) at (p, m) → Kept zs (raised (count_of (listed t)) p n)
+  raise_kept there m most zs e =
       let counts = counted_there (listed t) t.ordered p sought_there.in_range at sought_there.here there in
-      let entry = sym (get_or-take t.len t.entries at no_entry within)
-      ∙ entry_there (listed t) t.ordered p sought_there.in_range at sought_there.here counts no_entry in
+      let entry = entry_there (listed t) t.ordered p sought_there.in_range at sought_there.here counts no_entry in
       let most_there : m ≡ max (count_of (listed t) p) n = most ∙ ap (λ (e : Pair × ℕ). max e.1 n) entry in
-      after _ (take-set-lt t.len t.entries at (p, m) within
-      ∙ ap (λ k. set (listed t) at (p, k)) most_there
-      ∙ raised_there (listed t) t.ordered p sought_there.in_range at sought_there.here counts n)
+      after _ (e ∙ ap (λ k. set (listed t) at (p, k)) most_there ∙ raised_there (listed t) t.ordered p sought_there.in_range at sought_there.here counts n)
 
   pub insert_kept : heads p (drop at (listed t)) ≡ false → 0 < n → (zs : List (Pair × ℕ)) → zs ≡ take at (listed t) ++ ((p, n) ∷ drop at (listed t))
       → Kept zs (raised (count_of (listed t)) p n)
@@ -106,7 +112,7 @@ module _ (t : Listed) (p : Pair) (at n : ℕ) (sought_there : Sought (listed t) 
       and_right (none_above 8191 (raised (count_of es) p n)) _ (lt-leb _ _ (omega (arith, many)))
 
 pub own_fits : (t : Listed) → listed_fits (count_of (listed t)) ≡ true
-own_fits t = in_order_fits (listed t) t.ordered t.low (omega (arith, length-take t.len t.entries))
+own_fits t = in_order_fits (listed t) t.ordered t.low (most_items t.entries)
 
 -- a raise to 0 changes nothing
 pub raised_to_none : (c : Counts) (p : Pair) (n : ℕ) → n ≡ 0 → c ≡ raised c p n
@@ -114,13 +120,46 @@ raised_to_none c p n z = fun_ext (λ q. sym (cond_both (same q p) _ _ (λ x. x �
 
 -- the count that a search for a pair shows
 pub count_found : (t : Listed) (p : Pair) → inside p ≡ true → (r : Result ℕ ℕ) → r ≡ sought (listed t) p → (n : ℕ)
-    → MatchResult r (λ at. n ≡ (get_or t.entries at no_entry).1) (λ _. n ≡ 0) → n ≡ count_of (listed t) p
+    → MatchResult r (λ at. n ≡ (get_or (listed t) at no_entry).1) (λ _. n ≡ 0) → n ≡ count_of (listed t) p
 count_found t p i (Ok at) is n h =
     let there = found_there (listed t) p at is in
-    let within = within_since (listed t) p at there.1 in
     h ∙ ap (λ (e : Pair × ℕ). e.1)
-    (sym (get_or-take t.len t.entries at no_entry (omega (arith, within, length-take t.len t.entries)))
-    ∙ entry_there (listed t) t.ordered p i at there.0 (counted_there (listed t) t.ordered p i at there.0 there.1) no_entry)
+    (entry_there (listed t) t.ordered p i at there.0 (counted_there (listed t) t.ordered p i at there.0 there.1) no_entry)
 count_found t p i (Err at) is n h =
     let absent = absent_there (listed t) p at is in
     h ∙ sym (not_counted (listed t) t.ordered p i at absent.0 absent.1)
+
+-- a listed tally is its list
+pub same_listed : (a b : Listed) → a.entries ≡ b.entries → a ≡ b
+same_listed a b e =
+    let o = is_prop→PathP (λ i. ordered-type (e i)) (λ i. hlevel props) a.ordered b.ordered in
+    let l = is_prop→PathP (λ i. low-type (e i) (o i)) (λ i. hlevel props) a.low b.low in
+    λ i. record { entries = e i; ordered = o i; low = l i }
+
+-- what is left of a list into which an entry was put, or was not for want of a place
+pub put_or_kept : (t : Listed) (p : Pair) (at n : ℕ) → Sought (listed t) p at → n ≤ 8191 → heads p (drop at (listed t)) ≡ false → 0 < n
+    → (r : Result (Unit {0}) ListFull) (new : ShortList (Pair × ℕ) 96) → OnOk r (items new ≡ take at (listed t) ++ ((p, n) ∷ drop at (listed t))) → OnErr r (new ≡ t.entries)
+    → InOrder (items new) × (none_above 8191 (count_of (items new)) ≡ true)
+put_or_kept t p at n s low absent some (Ok u) new put same = let k = insert_kept t p at n s low absent some (items new) put in (k.ordered, k.low)
+put_or_kept t p at n s low absent some (Err e) new put same =
+    (rw same t.ordered, rw same t.low)
+
+-- a refusal that is turned into another says what the first says
+pub turned : {E F : Type 0} (P Q : Type 0) (r : Result (Unit {0}) E) (m : Result (Unit {0}) F) → is_ok m ≡ is_ok r → OnOk r P → OnErr r Q → MatchResult m (λ _. P) (λ _. Q)
+turned P Q (Ok u) (Ok v) e p q = p
+turned P Q (Ok u) (Err d) e p q = absurd (both_ways true (sym e) refl)
+turned P Q (Err d) (Ok v) e p q = absurd (both_ways true e refl)
+turned P Q (Err d) (Err f) e p q = q
+
+-- a list into which no more is put is full
+pub full_since : (xs : List (Pair × ℕ)) (r : Result (Unit {0}) ListFull) → r ≡ adding 96 xs → OnErr r (length xs ≡ 96)
+full_since xs (Ok u) e = tt
+full_since xs (Err d) e =
+    ⊎_elim
+    (λ (y : eqb (length xs) 96 ≡ true). eqb-true _ _ y)
+    (λ (n : eqb (length xs) 96 ≡ false). MatchResult-at_ok (λ _. length xs ≡ 96) (λ _. Unit {0}) tt (e ∙ cond-false _ _ _ n) tt)
+    (cases_Bool (eqb (length xs) 96))
+
+pub both : {E : Type 0} (P Q : Type 0) (r : Result (Unit {0}) E) → OnErr r P → OnErr r Q → OnErr r (P × Q)
+both P Q (Ok u) p q = tt
+both P Q (Err d) p q = (p, q)

@@ -1,7 +1,6 @@
 -- The proofs of laws of listed tallies, cited where they are said to be a kind of tally.
-use Rattle.std.specs.Prelude.{◌≡◌, ℕ, ◌≤◌, true, List, length, take}
+use Rattle.std.specs.Prelude.{◌≡◌, ℕ, ◌≤◌, true, List, length}
 use Rattle.std.proofs.Common.{ap, ◌∙◌, arith}
-use Rattle.std.proofs.lemmas.List.{length-take}
 use Rattle.std.proofs.lemmas.Bool.{and_parts, and_from, leb-true, le-leb}
 use Rattle.tally.specs.declared.pair.Pair.{Pair}
 use Rattle.tally.specs.Pairs.{inside}
@@ -19,10 +18,6 @@ in_order_ranged es h p o = ap (λ xs. count_of xs p) h ∙ counted_ranged (count
 -- a list in order of at most 96 counts, none above 8,191, fits
 pub in_order_fits : (es : List (Pair × ℕ)) → InOrder es → none_above 8191 (count_of es) ≡ true → length es ≤ 96 → listed_fits (count_of es) ≡ true
 in_order_fits es h low few = and_from _ _ low (le-leb _ _ (omega (arith, ap length h)))
-
--- the front of a list, at most 96 long
-pub front_short : (n : ℕ) (es : List (Pair × ℕ)) → n ≤ 96 → length (take n es) ≤ 96
-front_short n es few = omega (arith, length-take n es)
 
 -- what fits still fits with counts lowered
 pub fits_lowered : Lowers listed_fits

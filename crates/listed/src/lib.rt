@@ -2,14 +2,16 @@
 #![tactic(auto)]
 
 ghost use Rattle.std.specs.Prelude.{◌≡◌, ℕ, ◌+◌, ◌<◌, ◌≤◌, true, false, List, [], ◌∷◌, ◌++◌, length, take, drop, if◌then◌else◌, Err, MatchResult};
+ghost use Rattle.shortlist.proofs.Items.{most_items};
 ghost use Rattle.tally.specs.Pairs.{inside};
 ghost use Rattle.tally.specs.Counts.{raised, larger, counted_pairs, count_of, none_above};
 ghost use Rattle.tally.specs.Answers.{verdict};
 ghost use Rattle.listed.specs.Entries.{InOrder, seek, listed_fits};
 ghost use Rattle.listed.specs.Listing.{listed, sought, Sought};
 ghost use Rattle.listed.specs.Merging.{front_of, merged_front, heads};
-ghost use Rattle.listed.specs.Laws.{few_fit, fits_bounded, fits_lowered, front_short, in_order_fits, in_order_ranged};
+ghost use Rattle.listed.specs.Laws.{few_fit, fits_bounded, fits_lowered, in_order_fits, in_order_ranged};
 
+use shortlist::ShortList;
 use std::cmp::Ordering;
 use tally::{CountedPairs, FIRST, MOST, NotRaised, Pair, Refusal, Tally};
 
@@ -17,19 +19,6 @@ mod entries;
 
 use entries::Entry;
 pub use entries::Listed;
-
-// how many counts there may be
-const PLACES: usize = 96;
-
-// Puts an entry in at a position, and moves the later ones on.
-fn insert(entries: &mut [Entry; 96], len: usize, at: usize, entry: Entry)
-    requires within { at ≤ len }
-    requires room { len < 96 }
-    ensures { take (len + 1) entries.new ≡ take at (take len entries.old) ++ (entry ∷ drop at (take len entries.old)) }
-{
-    entries[len] = entry;
-    entries[at..len + 1].rotate_right(1);
-}
 
 // Of two entries the one whose pair comes first, or both in one, with the larger count.
 fn earlier(x: Entry, y: Entry) -> Entry
@@ -46,12 +35,10 @@ fn earlier(x: Entry, y: Entry) -> Entry
 fn front(a: &[Entry], b: &[Entry]) -> Option<Entry>
     ensures { result ≡ merged_front a.now b.now }
 {
-    match a {
-        [] => b.first().copied(),
-        [x, ..] => match b {
-            [] => Some(*x),
-            [y, ..] => Some(earlier(*x, *y)),
-        },
+    match (a, b) {
+        ([x, ..], [y, ..]) => Some(earlier(*x, *y)),
+        ([x, ..], []) | ([], [x, ..]) => Some(*x),
+        ([], []) => None,
     }
 }
 
@@ -87,7 +74,7 @@ impl Listed {
     fn list(&self) -> &[Entry]
         ensures { result.now ≡ listed self.now }
     {
-        &self.entries[0..self.len]
+        self.entries.as_slice()
     }
 
     // How many entries stand before a place of the order.
@@ -109,26 +96,28 @@ impl Listed {
     // Raises the count of a pair whose entry stands at its position.
     fn raise_at(&mut self, at: usize, pair: Pair, number: u16)
         requires sought { Sought (listed self.old) pair at }
-        requires within { at < self.old.len }
+        requires within { at < length (listed self.old) }
         requires there { heads pair (drop at (listed self.old)) ≡ true }
         requires low { number ≤ 8191 }
         ensures { count_of (listed self.new) ≡ raised (count_of (listed self.old)) pair number }
     {
-        let count = self.entries[at].1;
-        self.entries[at] = (pair, u16::max(count, number));
+        let count = self.list()[at].1;
+        self.entries.set(at, (pair, u16::max(count, number)));
     }
 
-    // Lists a pair that is not listed yet at its position.
-    fn insert_at(&mut self, at: usize, pair: Pair, number: u16)
+    // Lists a pair that is not listed yet at its position, if there is a place for it.
+    fn insert_at(&mut self, at: usize, pair: Pair, number: u16) -> Result<(), NotRaised>
         requires sought { Sought (listed self.old) pair at }
         requires absent { heads pair (drop at (listed self.old)) ≡ false }
         requires low { number ≤ 8191 }
         requires some { 0 < number }
-        requires room { self.old.len < 96 }
-        ensures { count_of (listed self.new) ≡ raised (count_of (listed self.old)) pair number }
+        ensures { MatchResult result
+            (λ _. count_of (listed self.new) ≡ raised (count_of (listed self.old)) pair number)
+            (λ _. (self.new ≡ self.old) × (length (listed self.old) ≡ 96)) }
     {
-        insert(&mut self.entries, self.len, at, (pair, number));
-        self.len += 1;
+        self.entries
+            .insert(at, (pair, number))
+            .map_err(|_full| NotRaised)
     }
 
     // Lists an entry behind the others, if there is a place for it.
@@ -139,12 +128,9 @@ impl Listed {
             (λ _. listed self.new ≡ listed self.old ++ entry ∷ [])
             (λ e. (e.pair ≡ entry.0) × (length (listed self.old) ≡ 96)) }
     {
-        if self.len == PLACES {
-            return Err(Refusal { pair: entry.0 });
-        }
-        self.entries[self.len] = entry;
-        self.len += 1;
-        Ok(())
+        self.entries
+            .push(entry)
+            .map_err(|_full| Refusal { pair: entry.0 })
     }
 }
 
@@ -155,7 +141,7 @@ impl Tally for Listed {
 
     ghost outside = { λ t p o. in_order_ranged (listed t) t.ordered p o };
 
-    ghost own = { λ t. in_order_fits (listed t) t.ordered t.low (front_short t.len t.entries t.few) };
+    ghost own = { λ t. in_order_fits (listed t) t.ordered t.low (most_items t.entries) };
 
     ghost lowered = { fits_lowered };
 
@@ -165,8 +151,7 @@ impl Tally for Listed {
 
     fn blank() -> Listed {
         Listed {
-            entries: [(FIRST, 0); 96],
-            len: 0,
+            entries: ShortList::new((FIRST, 0)),
         }
     }
 
@@ -174,7 +159,7 @@ impl Tally for Listed {
         if !pair.in_range() {
             return 0;
         }
-        self.search(pair).map_or(0, |at| self.entries[at].1)
+        self.search(pair).map_or(0, |at| self.list()[at].1)
     }
 
     fn try_raise(&mut self, pair: Pair, number: u16) -> Result<(), NotRaised> {
@@ -184,8 +169,7 @@ impl Tally for Listed {
         match self.search(pair) {
             Ok(at) => self.raise_at(at, pair, number),
             Err(_) if number == 0 => {}
-            Err(_) if self.len == PLACES => return Err(NotRaised),
-            Err(at) => self.insert_at(at, pair, number),
+            Err(at) => self.insert_at(at, pair, number)?,
         }
         Ok(())
     }
@@ -203,6 +187,6 @@ impl CountedPairs for Listed {
     }
 
     fn counted(&self) -> u16 {
-        self.len as u16
+        self.entries.len() as u16
     }
 }

@@ -3,7 +3,7 @@ use Rattle.std.proofs.lemmas.List.{length_push}
 use Rattle.std.proofs.lemmas.Result.{err_from_is_err_and}
 use Rattle.tally.specs.Pairs.{rank}
 use Rattle.listed.specs.Listing.{listed}
-use Rattle.listed.specs.Laws.{front_short}
+use Rattle.shortlist.proofs.Items.{most_items}
 use Rattle.listed.proofs.Joining.{begun, goes_on, next_kept, stops, ends}
 use Rattle.listed.proofs.merged.Goals as goal
 
@@ -31,7 +31,7 @@ returns-in_err-push c =
 pub loop-entry-smaller : goal.loop-entry-smaller
 loop-entry-smaller c =
     let t = c.push.new.self in
-    omega (arith, ap length c.in_ok-push.ensures, length_push (listed c.loop-entry.merged) c.in-Some.entry, front_short t.len t.entries t.few)
+    omega (arith, ap length c.in_ok-push.ensures, length_push (listed c.loop-entry.merged) c.in-Some.entry, most_items t.entries)
 
 pub loop-entry-preserved : goal.loop-entry-preserved
 loop-entry-preserved c =

@@ -1,8 +1,9 @@
 -- A list with one element put at the end and rotated to its position.
-use Rattle.std.proofs.Common.{◌≡◌, ℕ, ◌+◌, ◌-◌, ◌<◌, ◌≤◌, List, [], ◌∷◌, ◌++◌, length, take, drop, set, sym, ap, ◌∙◌, arith}
+use Rattle.std.proofs.lemmas.Bool.{cases_lt}
+use Rattle.std.proofs.Common.{◌≡◌, ℕ, ◌+◌, ◌-◌, ◌<◌, ◌≤◌, min, ap₂, ⊎_elim, List, [], ◌∷◌, ◌++◌, length, take, drop, set, sym, ap, ◌∙◌, arith}
 use borrow.Rule.Slice.PartMut.{put_mid}
 use Rattle.std.specs.List.{between}
-use Rattle.std.proofs.lemmas.List.{take_more_set, drop-append-le, drop_at, take_at, take-take, take-set-le, length-take, length-drop, length-set, length_push}
+use Rattle.std.proofs.lemmas.List.{take_all, drop_all, take_more_set, drop-append-le, drop_at, take_at, take-take, take-set-le, length-take, length-drop, length-set, length_push}
 use Rattle.std.proofs.lemmas.Slice.{between_is, take-put_mid}
 
 module _ {X : Type 0} (xs : List X) (n at : ℕ) (x : X) (low : at ≤ n) (high : n < length xs) where
@@ -25,3 +26,14 @@ module _ {X : Type 0} (xs : List X) (n at : ℕ) (x : X) (low : at ≤ n) (high 
       let len : n + 1 ≡ at + length ys = omega (arith, ap length h, length-drop at (take n xs), length-take n xs) in
       take-put_mid at k (set xs n x) ys (n + 1) len (omega (arith, length-set xs n x))
       ∙ (λ i. (take-set-le at xs n x low ∙ sym (take-take at n xs low)) i ++ h i)
+
+-- a position past the end is the end
+pub at_end : {X : Type 0} (xs : List X) (at : ℕ) (x : X) (to : ℕ) → to ≡ min at (length xs) → take to xs ++ (x ∷ drop to xs) ≡ take at xs ++ (x ∷ drop at xs)
+at_end xs at x to h =
+    ⊎_elim
+    (λ (l : at < length xs). let e : to ≡ at = omega arith in ap (λ n. take n xs ++ (x ∷ drop n xs)) e)
+    (λ (l : length xs ≤ at).
+    let e : to ≡ length xs = omega arith in
+    ap (λ n. take n xs ++ (x ∷ drop n xs)) e
+    ∙ ap₂ (λ a b. a ++ (x ∷ b)) (take_all (length xs) xs (omega arith) ∙ sym (take_all at xs l)) (drop_all (length xs) xs (omega arith) ∙ sym (drop_all at xs l)))
+    (cases_lt at (length xs))

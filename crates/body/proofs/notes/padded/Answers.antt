@@ -1,6 +1,0 @@
-use Rattle.std.proofs.Common.{◌++◌, length, ap₂}
-use Rattle.std.proofs.lemmas.List.{drop-replicate}
-use Rattle.body.proofs.notes.padded.Goals as goal
-
-pub returns : goal.returns
-returns c = ap₂ ◌++◌ c.copy_from_slice.ensures.after (drop-replicate (length c.args.told.now) 24 0)
