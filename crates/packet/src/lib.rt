@@ -4,10 +4,12 @@
 ghost use Rattle.std.specs.Prelude.{◌≡◌, if◌then◌else◌, Some, None};
 ghost use Rattle.std.specs.Option.{option_map};
 ghost use Rattle.packet.specs.declared.fault.Fault.{Fault as PacketFault};
+ghost use Rattle.packet.specs.declared.fault.PackFault.TheVariants.{ShortBuffer as PackShortBuffer};
 ghost use Rattle.packet.specs.Heads.{in_range};
 ghost use Rattle.packet.specs.Messages.{parts};
 ghost use Rattle.packet.specs.Faults.{tells, pack_number};
 
+use body::ShortBuffer;
 use tally::Pair;
 
 mod fault;
@@ -110,6 +112,14 @@ impl Fault {
             Fault::Counts(_, fault) => Some(fault.pair()),
             _ => None,
         }
+    }
+}
+
+impl From<ShortBuffer> for PackFault {
+    ghost from_gives = { λ short fault. fault ≡ PackShortBuffer };
+
+    fn from(_short: ShortBuffer) -> PackFault {
+        PackFault::ShortBuffer
     }
 }
 

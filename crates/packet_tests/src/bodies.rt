@@ -1,4 +1,4 @@
-use body::{Body, CallCode, Note};
+use body::{Body, CallCode, Note, ShortBuffer};
 use std::test::Fail;
 
 #[test]
@@ -7,10 +7,10 @@ fn call_codes(rt: HostRuntime) -> Result<(), Fail> {
     assert_eq!(rt; CallCode::kind(), 1);
     assert_eq!(rt; code.size(), 2);
     let mut out = [9, 9, 9];
-    assert!(rt; code.write(&mut out));
+    assert!(rt; code.write(&mut out).is_ok());
     // 500 = 1 * 256 + 244
     assert!(rt; out == [1, 244, 9]);
-    assert!(rt; !code.write(&mut out[..1]));
+    assert_eq!(rt; code.write(&mut out[..1]), Err(ShortBuffer));
     assert!(rt; out == [1, 244, 9]);
     assert_eq!(rt; CallCode::read(&[1, 244]).ok_or("refused")?.value, 500);
     assert!(rt; CallCode::read(&[1]).is_none());
@@ -24,7 +24,7 @@ fn notes(rt: HostRuntime) -> Result<(), Fail> {
     assert_eq!(rt; Note::kind(), 2);
     assert_eq!(rt; note.size(), 7);
     let mut out = [0; 9];
-    assert!(rt; note.write(&mut out));
+    assert!(rt; note.write(&mut out).is_ok());
     assert!(rt; &out[..] == b"seen to\0\0".as_slice());
     assert!(rt; Note::read(b"").is_some());
     assert!(rt; Note::read(b"abcdefghijklmnopqrstuvwx").is_some());

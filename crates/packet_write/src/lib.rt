@@ -10,7 +10,7 @@ ghost use Rattle.packet.specs.Packing.{pair_bytes, packet_bytes};
 ghost use Rattle.packet.specs.Reading.{reading};
 ghost use Rattle.packet_write.specs.Writing.{packing, Puts, head_bytes};
 
-use body::Body;
+use body::{Body, ShortBuffer};
 use packet::{Head, Message, PackFault};
 use tally::{CountedPairs, Pair};
 
@@ -60,14 +60,16 @@ fn put_pairs<T: CountedPairs>(writer: &mut Writer, tag: &T)
 }
 
 // Writes the body's length and the body.
-fn put_body<B: Body>(writer: &mut Writer, body: &B)
+fn put_body<B: Body>(writer: &mut Writer, body: &B) -> Result<(), ShortBuffer>
     requires { writer.old.place + 1 + length (B.bytes body.now) ≤ length writer.old.out.now }
-    ensures { Puts writer.old writer.new (length (B.bytes body.now) ∷ B.bytes body.now) }
+    ensures answers { result ≡ Ok tt }
+    ensures leaves { Puts writer.old writer.new (length (B.bytes body.now) ∷ B.bytes body.now) }
 {
     let size = body.size();
     writer.put(&[size]);
-    let _ = body.write(&mut writer.out[writer.place..]);
+    body.write(&mut writer.out[writer.place..])?;
     writer.place += size as usize;
+    Ok(())
 }
 
 // Packs a message at the front of a buffer, and answers the packet's length. It is refused only where the buffer is too
@@ -90,6 +92,6 @@ pub fn pack<T: CountedPairs, B: Body>(
     let mut writer = Writer { out, place: 0 };
     writer.put(&head_bytes(B::kind(), message.head(), pairs));
     put_pairs(&mut writer, tag);
-    put_body(&mut writer, body);
+    put_body(&mut writer, body)?;
     Ok(length)
 }

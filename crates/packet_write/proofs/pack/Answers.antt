@@ -50,7 +50,7 @@ returns g c =
     let told : Puts c.put.new.self c.put_pairs.new.writer (pairs_part kind m) =
     subst (Puts c.put.new.self c.put_pairs.new.writer) (ap (λ t. flat_map pair_bytes (counted_pairs (counts t))) c.tag-tag.ensures) c.put_pairs.ensures in
     let body : Puts c.put_pairs.new.writer c.put_body.new.writer (body_part kind m) =
-    subst (Puts c.put_pairs.new.writer c.put_body.new.writer) (ap (λ b. length (bytes b) ∷ bytes b) c.body-body.ensures) c.put_body.ensures in
+    subst (Puts c.put_pairs.new.writer c.put_body.new.writer) (ap (λ b. length (bytes b) ∷ bytes b) c.body-body.ensures) c.put_body.ensures.leaves in
     let written = packed kind m _ refl room _ _ _ head told body in
     let name = sym (body.same ∙ told.same ∙ head.same) in
     let carries : Lawful g.B.Body.lawful g.T.Tally.fits m =

@@ -4,8 +4,8 @@ use Rattle.packet_write.proofs.Placing.{placed_part}
 use Rattle.packet_write.proofs.Pairing.{puts_more, puts_length}
 use Rattle.packet_write.proofs.put_body.Goals as goal
 
-pub returns : goal.returns
-returns g c =
+pub returns-clause-leaves : goal.returns-clause-leaves
+returns-clause-leaves g c =
     let before = c.args.writer.now in
     let bs = g.B.Body.bytes c.args.body.now in
     let first : Puts before c.put.new.self (length bs ∷ []) = subst (λ n. Puts before c.put.new.self (n ∷ [])) c.size-size.ensures c.put.ensures in
