@@ -19,15 +19,9 @@ module _ (kind : ℕ) (lawful : List ℕ → Bool) (fits : Counts → Bool) (bs 
   abbrev after_head : List (Question Told)
   after_head = pairs ++ body_questions lawful bs
 
-  pub no_opening : (t : Told) → first_no (opening_questions bs) ≡ Some t → refusal kind lawful fits bs ≡ Some t
-  no_opening t e = stopped (opening_questions bs) (head_questions kind bs ++ after_head) t e
-
   module _ (opens : first_no (opening_questions bs) ≡ None) where
     from_head : refusal kind lawful fits bs ≡ first_no (head_questions kind bs ++ after_head)
     from_head = passed (opening_questions bs) (head_questions kind bs ++ after_head) opens
-
-    pub no_head : (t : Told) → first_no (head_questions kind bs) ≡ Some t → refusal kind lawful fits bs ≡ Some t
-    no_head t e = from_head ∙ stopped (head_questions kind bs) after_head t e
 
     module _ (heads : first_no (head_questions kind bs) ≡ None) where
       from_pairs : refusal kind lawful fits bs ≡ first_no after_head
@@ -39,26 +33,15 @@ module _ (kind : ℕ) (lawful : List ℕ → Bool) (fits : Counts → Bool) (bs 
       pub from_body : first_no pairs ≡ None → refusal kind lawful fits bs ≡ first_no (body_questions lawful bs)
       from_body e = from_pairs ∙ passed pairs (body_questions lawful bs) e
 
--- what a head with no no holds
-pub record Headed (kind : ℕ) (bs : List ℕ) : Type 0 where
-  pub long : 13 ≤ length bs
-  pub kind_is : byte_at bs 5 ≡ kind
-  pub ranged : in_range (head_in bs) ≡ true
-
-pub headed : (kind : ℕ) (bs : List ℕ) → first_no (head_questions kind bs) ≡ None → Headed kind bs
+-- a head with no no is in range
+pub headed : (kind : ℕ) (bs : List ℕ) → first_no (head_questions kind bs) ≡ None → in_range (head_in bs) ≡ true
 headed kind bs e =
     let y = all_yes (head_questions kind bs) e in
-    let kind_yes = y.1.0 in
     let station = y.1.1.1.0 in
     let sender = y.1.1.1.1.1.0 in
     let addressee = and_parts (ltb (byte_at bs 8) 32) _ y.1.1.1.1.1.1.1.0 in
     let name = y.1.1.1.1.1.1.1.1.1.0 in
-    let long_yes = y.1.1.1.1.1.1.1.1.1.1.0 in
-    record {
-      long = leb-true _ _ long_yes;
-      kind_is = eqb-true _ _ kind_yes;
-      ranged = and_from _ _ station (and_from _ _ sender (and_from _ _ addressee.0 (and_from _ _ addressee.1 name)));
-    }
+    and_from _ _ station (and_from _ _ sender (and_from _ _ addressee.0 (and_from _ _ addressee.1 name)))
 
 some_parts : {X : Type 0} (x y : X) → ◌≡◌ {A = Option X} (Some x) (Some y) → x ≡ y
 some_parts x y e = cc

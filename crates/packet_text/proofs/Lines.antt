@@ -59,14 +59,8 @@ asks_one line a b p q =
     let packet = hex_one a.packet b.packet p.bytes q.bytes body.1 in
     λ i. record { tally = tally.0 i; body = body.0 i; packet = packet i }
 
-module _ (line text : List ℕ) where
-  pub answers_asked : (a : Asked) → Asks line a → text ≡ reply a → Answers line text
-  answers_asked a p e = record { asked = λ b q. e ∙ ap reply (asks_one line a b p q); other = λ none. absurd (none a p) }
-
-  pub answers_other : ((a : Asked) → Asks line a → ⊥) → text ≡ codes "bad" → Answers line text
-  answers_other none e = record { asked = λ a p. absurd (none a p); other = λ _. e }
-
--- a text that may be refused for want of memory
-pub answers_asked_if : {X Y : Type 0} (r : Result X Y) (line : List ℕ) (text : X → List ℕ) (a : Asked) → Asks line a → IfOk r (λ x. text x ≡ reply a) → IfOk r (λ x. Answers line (text x))
-answers_asked_if (Ok x) line text a p e = answers_asked line (text x) a p e
-answers_asked_if (Err y) line text a p e = e
+-- the reply to what a line asks answers it; it may be refused for want of memory
+pub answers_asked : {X Y : Type 0} (r : Result X Y) (line : List ℕ) (text : X → List ℕ) (a : Asked) → Asks line a → IfOk r (λ x. text x ≡ reply a)
+    → IfOk r (λ x. Answers line (text x))
+answers_asked (Ok x) line text a p e = record { asked = λ b q. e ∙ ap reply (asks_one line a b p q); other = λ none. absurd (none a p) }
+answers_asked (Err y) line text a p e = e

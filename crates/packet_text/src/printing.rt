@@ -70,6 +70,7 @@ impl Printed for Note {
     ghost text = { note_text };
 
     fn print<W: fmt::Write>(&self, f: &mut fmt::Formatter<W>) -> fmt::Result {
+        // a note's bytes are characters by themselves
         let Ok(text) = str::from_utf8(self.text()) else {
             unreachable()
         };
@@ -79,10 +80,10 @@ impl Printed for Note {
 
 // A body of a message.
 #[derive(Drop)]
-struct Told<'a, B>(&'a B);
+struct BodyText<'a, B>(&'a B);
 
-impl<B: Printed> fmt::Display for Told<'_, B> {
-    ghost output = { λ told. Some (B.Printed.text (B.Body.bytes told.0.now)) };
+impl<B: Printed> fmt::Display for BodyText<'_, B> {
+    ghost output = { λ shown. Some (B.Printed.text (B.Body.bytes shown.0.now)) };
 
     fn fmt<W: fmt::Write>(&self, f: &mut fmt::Formatter<W>) -> fmt::Result {
         self.0.print(f)
@@ -113,7 +114,7 @@ impl<T: CountedPairs, B: Printed> fmt::Display for Accepted<'_, T, B> {
             f,
             "{}{} {}",
             Pairs(tag),
-            Told(self.message.body()),
+            BodyText(self.message.body()),
             Hex(self.packet)
         )
     }
@@ -139,12 +140,13 @@ impl fmt::Display for Refused {
 const LONGEST_PACKET: usize = 1293;
 
 // What is printed of a message that is accepted.
-fn show<T: CountedPairs, B: Printed>(
+fn accepted_text<T: CountedPairs, B: Printed>(
     heap: Global,
     message: &Message<T, B>,
 ) -> Result<String, AllocError>
     ensures { IfOk result (λ text. string_bytes text ≡ accepted_text B.Body.kind B.Printed.text (meaning T.Tally.counts B.Body.bytes message.now)) }
 {
+    // there is room for any packet
     let mut packet = [0; LONGEST_PACKET];
     let Ok(length) = packet_write::pack(message, &mut packet) else {
         unreachable()
@@ -157,17 +159,17 @@ fn show<T: CountedPairs, B: Printed>(
 }
 
 // What is printed of a packet that is read with some kind of tally and of body.
-fn outcome<T: CountedPairs, B: Printed>(heap: Global, packet: &[u8]) -> Result<String, AllocError>
+fn outcome_text<T: CountedPairs, B: Printed>(heap: Global, packet: &[u8]) -> Result<String, AllocError>
     ensures { IfOk result (λ text. string_bytes text ≡ outcome_text B.Body.kind B.Printed.text (reading B.Body.kind B.Body.lawful T.Tally.fits packet.now)) }
 {
     match packet_read::read::<T, B>(packet) {
-        Ok(message) => show(heap, &message),
+        Ok(message) => accepted_text(heap, &message),
         Err(fault) => format!(in heap; "{}", Refused(fault)),
     }
 }
 
 // The same, where the kind of body is asked for.
-fn outcome_of<T: CountedPairs>(
+fn outcome_text_of<T: CountedPairs>(
     heap: Global,
     body: BodyKind,
     packet: &[u8],
@@ -175,8 +177,8 @@ fn outcome_of<T: CountedPairs>(
     ensures { IfOk result (λ text. string_bytes text ≡ outcome_text (kind_of body) (text_of body) (reading (kind_of body) (lawful_of body) T.Tally.fits packet.now)) }
 {
     match body {
-        BodyKind::Code => outcome::<T, CallCode>(heap, packet),
-        BodyKind::Note => outcome::<T, Note>(heap, packet),
+        BodyKind::Code => outcome_text::<T, CallCode>(heap, packet),
+        BodyKind::Note => outcome_text::<T, Note>(heap, packet),
     }
 }
 
@@ -185,7 +187,7 @@ pub(crate) fn reply(heap: Global, asked: &Asked) -> Result<String, AllocError>
     ensures { IfOk result (λ text. string_bytes text ≡ reply (asked_of asked.now)) }
 {
     match asked.tally {
-        TallyKind::Full => outcome_of::<Full>(heap, asked.body, &asked.packet),
-        TallyKind::Listed => outcome_of::<Listed>(heap, asked.body, &asked.packet),
+        TallyKind::Full => outcome_text_of::<Full>(heap, asked.body, &asked.packet),
+        TallyKind::Listed => outcome_text_of::<Listed>(heap, asked.body, &asked.packet),
     }
 }

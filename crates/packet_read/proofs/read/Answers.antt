@@ -51,7 +51,7 @@ returns g c =
     let same_after = ap (λ r. r.now) tagged.same ∙ same in
     let all_pairs = (λ i. first_no (pairs_questions fits (sym same i) 0 (sym made.reads.1 i))) ∙ sym tagged.asks in
     let all_body = ap (λ b. first_no (body_questions lawful b)) (sym same_after) ∙ sym bodied.asks in
-    let ranged = ap in_range made.reads.0 ∙ (headed kind bs (sym made.asks)).ranged in
+    let ranged = ap in_range made.reads.0 ∙ headed kind bs (sym made.asks) in
     let accepted = from_body kind lawful fits bs opens (sym made.asks) all_pairs ∙ all_body in
     let message_is = says g.T.Tally.counts g.B.Body.bytes kind lawful fits bs c.in-Some.message c.in_ok-head.head c.in_ok-tag.tag c.in_ok-body.body
     c.in-Some.ensures ranged made.reads.0

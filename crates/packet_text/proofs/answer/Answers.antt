@@ -1,6 +1,6 @@
 use Rattle.packet_text.specs.Lines.{asked_of}
-use Rattle.packet_text.proofs.Lines.{answers_asked_if}
+use Rattle.packet_text.proofs.Lines.{answers_asked}
 use Rattle.packet_text.proofs.answer.Goals as goal
 
 pub returns-in-Some : goal.returns-in-Some
-returns-in-Some c = answers_asked_if c.reply.result c.args.line.now _ (asked_of c.in-Some.asked) c.in-Some.ensures c.reply.ensures
+returns-in-Some c = answers_asked c.reply.result c.args.line.now _ (asked_of c.in-Some.asked) c.in-Some.ensures c.reply.ensures

@@ -6,7 +6,7 @@ use Rattle.packet.specs.Messages.{Content, meaning}
 use Rattle.packet.specs.Packing.{packet_bytes}
 use Rattle.packet_write.proofs.Packets.{length_packet}
 use Rattle.packet_text.specs.Printing.{message_text}
-use Rattle.packet_text.proofs.printing.show.Goals as goal
+use Rattle.packet_text.proofs.printing.accepted_text.Goals as goal
 
 -- the buffer has room for any packet
 room : (kind : ℕ) (m : Content) → length m.body ≤ 255 → length (packet_bytes kind m) ≤ 1293
