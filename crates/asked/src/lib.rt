@@ -2,13 +2,13 @@
 #![tactic(auto)]
 
 ghost use Rattle.std.specs.Prelude.{◌≡◌, OnOk};
+ghost use Rattle.std.specs.Result.{result_err};
 ghost use Rattle.questions.specs.Asking.{first_no};
 ghost use Rattle.rules.specs.Sound.{sound as soundness};
 ghost use Rattle.rules.specs.Asking.{lengths_right, shape_questions, common};
 ghost use Rattle.rules.specs.Opening.{asked_sizes};
 ghost use Rattle.tables.specs.View.{view};
 ghost use Rattle.tables.specs.Shape.{Shaped, Asked};
-ghost use Rattle.tables.specs.Calls.{refused};
 
 use rules::HouseFault;
 use tables::Tables;
@@ -44,7 +44,7 @@ pub fn shape<T: Tally, B: Copy>(
     rows: u16,
     places: u16,
 ) -> Result<(), HouseFault>
-    ensures is { refused result ≡ first_no (shape_questions (asked_sizes (view T.Tally.counts tables.now) stations handsets rows places)) }
+    ensures is { result_err result ≡ first_no (shape_questions (asked_sizes (view T.Tally.counts tables.now) stations handsets rows places)) }
     ensures facts { OnOk result (Shaped (asked_sizes (view T.Tally.counts tables.now) stations handsets rows places)) }
 {
     if stations < 1 || stations > 8 {
@@ -78,7 +78,7 @@ fn sound<T: Tally, B: Copy>(tables: &Tables<'_, T, B>) -> bool
 
 // The questions that every step is put first: about the numbers, the lengths, and what the tables name and hold.
 pub fn asked<T: Tally, B: Copy>(tables: &Tables<'_, T, B>) -> Result<(), HouseFault>
-    ensures is { refused result ≡ common (view T.Tally.counts tables.now) }
+    ensures is { result_err result ≡ common (view T.Tally.counts tables.now) }
     ensures facts { OnOk result (Asked (view T.Tally.counts tables.now)) }
 {
     let head = *tables.head;

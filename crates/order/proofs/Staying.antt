@@ -8,14 +8,13 @@ use Rattle.rules.specs.declared.place.Stage.{Stage}
 use Rattle.rules.specs.declared.place.Stage.TheVariants.{Wire, Back, Unread, Read}
 use Rattle.rules.specs.declared.place.Notice.{Notice}
 use Rattle.rules.specs.declared.call.Call.{Call}
-use Rattle.rules.specs.declared.call.Answer.{Answer}
 use Rattle.rules.specs.declared.call.Call.TheVariants.{Send, Arrive, ReadNext, Register, Release, Settle}
 use Rattle.rules.specs.Functions.{updated, all_in, front, rest, is_some, or_else}
 use Rattle.rules.specs.Places.{station_of, holds, heading, is_wire}
 use Rattle.rules.specs.House.{Row, House}
 use Rattle.rules.specs.Sound.{place_in, stage_in, passed_in, notice_in}
 use Rattle.rules.specs.Asking.{refusal}
-use Rattle.rules.specs.Steps.{notice, hand, stand_back, send_on, new_row, send_from, read_at, register_at, release_from, settle_at, arrive_at, grant}
+use Rattle.rules.specs.Steps.{Answer, notice, hand, stand_back, send_on, new_row, send_from, read_at, register_at, release_from, settle_at, arrive_at, grant}
 use Rattle.rules.specs.Runs.{History}
 use Rattle.order.proofs.Basics.{updated_both, lt_next}
 use Rattle.order.proofs.Lists.{any_front, all_in_cons, all_in_push}

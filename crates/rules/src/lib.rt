@@ -15,7 +15,7 @@ mod call;
 mod fault;
 mod place;
 
-pub use call::{Answer, Arrived, Call};
+pub use call::{Answer, Arrived, Call, Granted};
 pub use fault::HouseFault;
 pub use place::{Notice, Place, Stage};
 
