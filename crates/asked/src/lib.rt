@@ -4,7 +4,7 @@
 ghost use Rattle.std.specs.Prelude.{◌≡◌, OnOk};
 ghost use Rattle.std.specs.Result.{result_err};
 ghost use Rattle.questions.specs.Asking.{first_no};
-ghost use Rattle.rules.specs.Sound.{sound as soundness};
+ghost use Rattle.rules.specs.Functions.{within};
 ghost use Rattle.rules.specs.Asking.{lengths_right, shape_questions, common};
 ghost use Rattle.rules.specs.Opening.{asked_sizes};
 ghost use Rattle.tables.specs.View.{view};
@@ -16,7 +16,17 @@ use tally::Tally;
 
 mod handsets;
 mod roll;
+mod shaped;
 mod stations;
+
+use shaped::ShapedTables;
+
+// Is a number at least the one given and at most the other?
+fn within(low: u16, high: u16, n: u16) -> bool
+    ensures { result ≡ within low high n }
+{
+    (low..=high).contains(&n)
+}
 
 // Have the tables the lengths that these numbers say?
 fn lengths_right<T: Tally, B: Copy>(
@@ -28,12 +38,12 @@ fn lengths_right<T: Tally, B: Copy>(
 ) -> bool
     ensures { result ≡ lengths_right (asked_sizes (view T.Tally.counts tables.now) stations handsets rows places) }
 {
-    tables.stations.len() == stations as usize
-        && tables.handsets.len() == handsets as usize
-        && tables.roll.len() == rows as usize
-        && tables.unread.len() == handsets as usize * places as usize
-        && tables.back.len() == handsets as usize * places as usize
-        && tables.notices.len() == stations as usize * handsets as usize
+    tables.stations.len() == usize::from(stations)
+        && tables.handsets.len() == usize::from(handsets)
+        && tables.roll.len() == usize::from(rows)
+        && tables.unread.len() == usize::from(handsets) * usize::from(places)
+        && tables.back.len() == usize::from(handsets) * usize::from(places)
+        && tables.notices.len() == usize::from(stations) * usize::from(handsets)
 }
 
 // The questions about the numbers of a house and the lengths of its tables; the numbers are those that are asked for.
@@ -47,33 +57,22 @@ pub fn shape<T: Tally, B: Copy>(
     ensures is { result_err result ≡ first_no (shape_questions (asked_sizes (view T.Tally.counts tables.now) stations handsets rows places)) }
     ensures facts { OnOk result (Shaped (asked_sizes (view T.Tally.counts tables.now) stations handsets rows places)) }
 {
-    if stations < 1 || stations > 8 {
+    if !within(1, 8, stations) {
         return Err(HouseFault::Stations);
     }
-    if handsets < 1 || handsets > 32 {
+    if !within(1, 32, handsets) {
         return Err(HouseFault::Handsets);
     }
-    if rows < 1 || rows > 4096 {
+    if !within(1, 4096, rows) {
         return Err(HouseFault::Rows);
     }
-    if places < 2 || places > 64 {
+    if !within(2, 64, places) {
         return Err(HouseFault::Places);
     }
     if !lengths_right(tables, stations, handsets, rows, places) {
         return Err(HouseFault::Lengths);
     }
     Ok(())
-}
-
-// Do the tables name and hold only what they may?
-fn sound<T: Tally, B: Copy>(tables: &Tables<'_, T, B>) -> bool
-    requires { Shaped (view T.Tally.counts tables.now).sizes }
-    ensures { result ≡ soundness (view T.Tally.counts tables.now) }
-{
-    tables.head.used <= tables.head.rows
-        && roll::rows_sound(tables)
-        && handsets::handsets_sound(tables)
-        && stations::stations_sound(tables)
 }
 
 // The questions that every step is put first: about the numbers, the lengths, and what the tables name and hold.
@@ -83,7 +82,7 @@ pub fn asked<T: Tally, B: Copy>(tables: &Tables<'_, T, B>) -> Result<(), HouseFa
 {
     let head = *tables.head;
     shape(tables, head.stations, head.handsets, head.rows, head.places)?;
-    if !sound(tables) {
+    if !(ShapedTables { tables }).sound() {
         return Err(HouseFault::Tables);
     }
     Ok(())

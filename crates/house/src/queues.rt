@@ -39,7 +39,7 @@ pub(crate) fn unread_count<T: Tally, B: Copy>(tables: &Tables<'_, T, B>, handset
     ensures column { result ≡ unread_lengths tables.now.handsets.now handset }
     ensures is { result ≡ length ((view T.Tally.counts tables.now).unread handset) }
 {
-    tables::unread_length(&*tables.handsets, handset)
+    tables.unread_length(handset)
 }
 
 // How many stand back.
@@ -47,7 +47,7 @@ pub(crate) fn back_count<T: Tally, B: Copy>(tables: &Tables<'_, T, B>, handset: 
     ensures column { result ≡ back_lengths tables.now.handsets.now handset }
     ensures is { result ≡ length ((view T.Tally.counts tables.now).back handset) }
 {
-    tables::back_length(&*tables.handsets, handset)
+    tables.back_length(handset)
 }
 
 // How many notices a station has.
@@ -55,7 +55,7 @@ pub(crate) fn notice_count<T: Tally, B: Copy>(tables: &Tables<'_, T, B>, station
     ensures column { result ≡ notice_lengths tables.now.stations.now station }
     ensures is { result ≡ length ((view T.Tally.counts tables.now).notices station) }
 {
-    tables::notice_count(&*tables.stations, station)
+    tables.notice_count(station)
 }
 
 // Puts a name at the end of a handset's unread list.

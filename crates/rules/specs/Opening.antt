@@ -13,12 +13,13 @@ use Rattle.questions.specs.Asking.{first_no, or_next}
 use Rattle.rules.specs.declared.place.Place.TheVariants.{Kept}
 use Rattle.rules.specs.declared.fault.HouseFault.{HouseFault}
 use Rattle.rules.specs.declared.fault.HouseFault.TheVariants.{StartList}
-use Rattle.rules.specs.Functions.{all_in, any, by_option}
+use Rattle.std.specs.List.{list_all}
+use Rattle.rules.specs.Functions.{any, by_option}
 use Rattle.rules.specs.House.{Sizes, House}
 use Rattle.rules.specs.Asking.{shape_questions}
 
 abbrev pub start_right : Sizes → List ℕ → Bool
-start_right z l = not (any l) || (length l == z.handsets && all_in (λ p. nat_lt p z.stations) l)
+start_right z l = not (any l) || (length l == z.handsets && list_all (λ p. nat_lt p z.stations) l)
 
 abbrev pub start_station : List ℕ → ℕ → ℕ
 start_station l j = slice_index l j
