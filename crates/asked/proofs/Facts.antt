@@ -2,9 +2,9 @@
 -- handsets, and of the stations.
 use Rattle.std.proofs.Common.{◌≡◌, ℕ, ◌<◌, ◌≤◌, Bool, true, false, not, ◌||◌, eqb, ltb, leb, length, get_or, sym, refl, subst, ⊎_elim, arith}
 use Rattle.std.proofs.lemmas.Bool.{and_parts, or_cases, leb-true, ltb-true, eqb-true, eqb-false, not-true, both_ways, false≢true}
+use Rattle.std.specs.List.{list_all}
 use Rattle.rules.specs.declared.place.Place.{Place}
 use Rattle.rules.specs.declared.place.Place.TheVariants.{Kept, Leaving, OnWay}
-use Rattle.std.specs.List.{list_all}
 use Rattle.rules.specs.Functions.{all_below, how_many, any, front, is_some, or_else}
 use Rattle.rules.specs.Places.{station_of, is_kept, leaves, heading, is_wire}
 use Rattle.rules.specs.House.{House}

@@ -39,20 +39,22 @@ impl<T: Tally, B> ShapedTables<'_, '_, T, B> {
 
     // Is a handset's handed count of every station at most 4,096?
     fn handed_few(&self, handset: u16) -> bool
-        ensures { result ≡ all_below (λ i. nat_le ((view T.Tally.counts self.now.tables.now).handed (on i handset)) 4096) self.now.tables.now.head.now.stations }
+        ensures { result ≡ all_below (λ i. nat_le ((view T.Tally.counts self.now.tables.now).handed (on i handset)) 4096) self.now.tables.now.head.now.numbers.stations }
     {
-        (0..self.tables.head.stations).all(|station| self.tables.handed(station, handset) <= 4096)
+        let stations = self.tables.head.numbers.stations;
+        (0..stations).all(|station| self.tables.handed(station, handset) <= 4096)
     }
 
     // Does a handset's place name stations of the house, does its book hold at most as many as it has places, are its
     // lists sound, and its handed counts at most 4,096?
     #[tactic(auto, using(crate::proofs::Strides::row_within))]
     fn handset_sound(&self, handset: u16) -> bool
-        requires { handset < self.now.tables.now.head.now.handsets }
+        requires { handset < self.now.tables.now.head.now.numbers.handsets }
         ensures { result ≡ handset_sound (view T.Tally.counts self.now.tables.now) handset }
     {
-        place_in(self.tables.place(handset), self.tables.head.stations)
-            && self.book_length(handset) <= u32::from(self.tables.head.places)
+        let numbers = self.tables.head.numbers;
+        place_in(self.tables.place(handset), numbers.stations)
+            && self.book_length(handset) <= u32::from(numbers.places)
             && self.names_sound(handset, self.tables.unread(handset).unwrap())
             && self.names_sound(handset, self.tables.back(handset).unwrap())
             && self.handed_few(handset)
@@ -60,8 +62,8 @@ impl<T: Tally, B> ShapedTables<'_, '_, T, B> {
 
     // Is every handset's row sound?
     pub(crate) fn handsets_sound(&self) -> bool
-        ensures { result ≡ all_below (handset_sound (view T.Tally.counts self.now.tables.now)) self.now.tables.now.head.now.handsets }
+        ensures { result ≡ all_below (handset_sound (view T.Tally.counts self.now.tables.now)) self.now.tables.now.head.now.numbers.handsets }
     {
-        (0..self.tables.head.handsets).all(|handset| self.handset_sound(handset))
+        (0..self.tables.head.numbers.handsets).all(|handset| self.handset_sound(handset))
     }
 }

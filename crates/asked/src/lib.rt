@@ -10,7 +10,7 @@ ghost use Rattle.rules.specs.Opening.{asked_sizes};
 ghost use Rattle.tables.specs.View.{view};
 ghost use Rattle.tables.specs.Shape.{Shaped, Asked};
 
-use rules::HouseFault;
+use rules::{HouseFault, Numbers};
 use tables::Tables;
 use tally::Tally;
 
@@ -29,47 +29,38 @@ fn within(low: u16, high: u16, n: u16) -> bool
 }
 
 // Have the tables the lengths that these numbers say?
-fn lengths_right<T: Tally, B: Copy>(
-    tables: &Tables<'_, T, B>,
-    stations: u16,
-    handsets: u16,
-    rows: u16,
-    places: u16,
-) -> bool
-    ensures { result ≡ lengths_right (asked_sizes (view T.Tally.counts tables.now) stations handsets rows places) }
+fn lengths_right<T: Tally, B: Copy>(tables: &Tables<'_, T, B>, numbers: Numbers) -> bool
+    ensures { result ≡ lengths_right (asked_sizes (view T.Tally.counts tables.now) numbers) }
 {
-    tables.stations.len() == usize::from(stations)
-        && tables.handsets.len() == usize::from(handsets)
-        && tables.roll.len() == usize::from(rows)
-        && tables.unread.len() == usize::from(handsets) * usize::from(places)
-        && tables.back.len() == usize::from(handsets) * usize::from(places)
-        && tables.notices.len() == usize::from(stations) * usize::from(handsets)
+    tables.stations.len() == usize::from(numbers.stations)
+        && tables.handsets.len() == usize::from(numbers.handsets)
+        && tables.roll.len() == usize::from(numbers.rows)
+        && tables.unread.len() == usize::from(numbers.handsets) * usize::from(numbers.places)
+        && tables.back.len() == usize::from(numbers.handsets) * usize::from(numbers.places)
+        && tables.notices.len() == usize::from(numbers.stations) * usize::from(numbers.handsets)
 }
 
 // The questions about the numbers of a house and the lengths of its tables; the numbers are those that are asked for.
 pub fn shape<T: Tally, B: Copy>(
     tables: &Tables<'_, T, B>,
-    stations: u16,
-    handsets: u16,
-    rows: u16,
-    places: u16,
+    numbers: Numbers,
 ) -> Result<(), HouseFault>
-    ensures is { result_err result ≡ first_no (shape_questions (asked_sizes (view T.Tally.counts tables.now) stations handsets rows places)) }
-    ensures facts { OnOk result (Shaped (asked_sizes (view T.Tally.counts tables.now) stations handsets rows places)) }
+    ensures is { result_err result ≡ first_no (shape_questions (asked_sizes (view T.Tally.counts tables.now) numbers)) }
+    ensures facts { OnOk result (Shaped (asked_sizes (view T.Tally.counts tables.now) numbers)) }
 {
-    if !within(1, 8, stations) {
+    if !within(1, 8, numbers.stations) {
         return Err(HouseFault::Stations);
     }
-    if !within(1, 32, handsets) {
+    if !within(1, 32, numbers.handsets) {
         return Err(HouseFault::Handsets);
     }
-    if !within(1, 4096, rows) {
+    if !within(1, 4096, numbers.rows) {
         return Err(HouseFault::Rows);
     }
-    if !within(2, 64, places) {
+    if !within(2, 64, numbers.places) {
         return Err(HouseFault::Places);
     }
-    if !lengths_right(tables, stations, handsets, rows, places) {
+    if !lengths_right(tables, numbers) {
         return Err(HouseFault::Lengths);
     }
     Ok(())
@@ -80,8 +71,7 @@ pub fn asked<T: Tally, B: Copy>(tables: &Tables<'_, T, B>) -> Result<(), HouseFa
     ensures is { result_err result ≡ common (view T.Tally.counts tables.now) }
     ensures facts { OnOk result (Asked (view T.Tally.counts tables.now)) }
 {
-    let head = *tables.head;
-    shape(tables, head.stations, head.handsets, head.rows, head.places)?;
+    shape(tables, tables.head.numbers)?;
     if !(ShapedTables { tables }).sound() {
         return Err(HouseFault::Tables);
     }

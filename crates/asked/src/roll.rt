@@ -24,13 +24,14 @@ impl<T: Tally, B> ShapedTables<'_, '_, T, B> {
     fn row_sound(&self, name: u16) -> bool
         ensures { result ≡ row_sound (view T.Tally.counts self.now.tables.now) name }
     {
+        let numbers = self.tables.head.numbers;
         let sender = u16::from(self.tables.sender(name));
         let addressee = u16::from(self.tables.addressee(name));
-        u16::from(self.tables.sending_station(name)) < self.tables.head.stations
-            && sender < self.tables.head.handsets
-            && addressee < self.tables.head.handsets
+        u16::from(self.tables.sending_station(name)) < numbers.stations
+            && sender < numbers.handsets
+            && addressee < numbers.handsets
             && addressee != sender
-            && stage_in(self.tables.stage(name), self.tables.head.stations)
+            && stage_in(self.tables.stage(name), numbers.stations)
     }
 
     // Is every row in use sound?

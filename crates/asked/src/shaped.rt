@@ -20,7 +20,7 @@ impl<T: Tally, B> ShapedTables<'_, '_, T, B> {
     pub(crate) fn sound(&self) -> bool
         ensures { result ≡ soundness (view T.Tally.counts self.now.tables.now) }
     {
-        self.tables.head.used <= self.tables.head.rows
+        self.tables.head.used <= self.tables.head.numbers.rows
             && self.rows_sound()
             && self.handsets_sound()
             && self.stations_sound()

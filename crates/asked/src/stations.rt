@@ -41,22 +41,24 @@ impl<T: Tally, B> ShapedTables<'_, '_, T, B> {
 
     // Has a station passed every handset to a station of the house, or to none?
     fn passed_sound(&self, station: u16) -> bool
-        ensures { result ≡ all_below (λ j. passed_in self.now.tables.now.head.now.stations ((view T.Tally.counts self.now.tables.now).passed station j)) self.now.tables.now.head.now.handsets }
+        ensures { result ≡ all_below (λ j. passed_in self.now.tables.now.head.now.numbers.stations ((view T.Tally.counts self.now.tables.now).passed station j)) self.now.tables.now.head.now.numbers.handsets }
     {
-        (0..self.tables.head.handsets).all(|handset| {
+        let numbers = self.tables.head.numbers;
+        (0..numbers.handsets).all(|handset| {
             self.tables
                 .passed(station, handset)
-                .is_none_or(|to| u16::from(to) < self.tables.head.stations)
+                .is_none_or(|to| u16::from(to) < numbers.stations)
         })
     }
 
     // Do notices name handsets and stations of the house?
     fn notices_sound(&self, notices: &[Notice]) -> bool
-        ensures { result ≡ list_all (notice_in self.now.tables.now.head.now.handsets self.now.tables.now.head.now.stations) notices.now }
+        ensures { result ≡ list_all (notice_in self.now.tables.now.head.now.numbers.handsets self.now.tables.now.head.now.numbers.stations) notices.now }
     {
-        let head = *self.tables.head;
+        let numbers = self.tables.head.numbers;
         notices.iter().all(|notice| {
-            u16::from(notice.handset) < head.handsets && u16::from(notice.station) < head.stations
+            u16::from(notice.handset) < numbers.handsets
+                && u16::from(notice.station) < numbers.stations
         })
     }
 
@@ -64,8 +66,8 @@ impl<T: Tally, B> ShapedTables<'_, '_, T, B> {
     // house, and do its notices name handsets and stations of the house?
     #[tactic(auto, using(crate::proofs::Strides::row_within, crate::proofs::Passes::many_few))]
     fn station_sound(&self, station: u16, leaving: &[u16; 8]) -> bool
-        requires station { station < self.now.tables.now.head.now.stations }
-        requires leaving { (p : ℕ) → p < 8 → slice_index leaving.now p ≡ how_many (λ j. leaves p ((view T.Tally.counts self.now.tables.now).place j)) self.now.tables.now.head.now.handsets }
+        requires station { station < self.now.tables.now.head.now.numbers.stations }
+        requires leaving { (p : ℕ) → p < 8 → slice_index leaving.now p ≡ how_many (λ j. leaves p ((view T.Tally.counts self.now.tables.now).place j)) self.now.tables.now.head.now.numbers.handsets }
         ensures { result ≡ station_sound (view T.Tally.counts self.now.tables.now) station }
     {
         self.tables.notice_count(station) <= leaving[usize::from(station)]
@@ -75,10 +77,10 @@ impl<T: Tally, B> ShapedTables<'_, '_, T, B> {
 
     // Is every station's row sound?
     pub(crate) fn stations_sound(&self) -> bool
-        ensures { result ≡ all_below (station_sound (view T.Tally.counts self.now.tables.now)) self.now.tables.now.head.now.stations }
+        ensures { result ≡ all_below (station_sound (view T.Tally.counts self.now.tables.now)) self.now.tables.now.head.now.numbers.stations }
     {
         let tables = self.tables;
         let leaving = leaving_counts(&*tables.handsets);
-        (0..tables.head.stations).all(|station| self.station_sound(station, &leaving))
+        (0..tables.head.numbers.stations).all(|station| self.station_sound(station, &leaving))
     }
 }

@@ -1,12 +1,12 @@
 -- Every table of a house names only stations, handsets and messages of that house. Opening a house sees to that.
 use Rattle.std.proofs.Common.{◌≡◌, ℕ, zero, suc, ◌<◌, ◌≤◌, Bool, true, not, ◌&&◌, eqb, ltb, leb, List, [], ◌∷◌, length, get_or, None, refl, not-suc-le-zero, arith}
 use Rattle.std.proofs.lemmas.Bool.{and_parts, ltb-true, lt-ltb, leb-true}
+use Rattle.std.specs.List.{list_all}
 use Rattle.questions.specs.Asking.{first_no}
 use Rattle.questions.proofs.Asked.{AllYes, all_yes}
 use Rattle.rules.specs.declared.place.Place.{Place}
 use Rattle.rules.specs.declared.place.Place.TheVariants.{Kept, Leaving, OnWay}
 use Rattle.rules.specs.declared.fault.HouseFault.TheVariants.{StartList}
-use Rattle.std.specs.List.{list_all}
 use Rattle.rules.specs.Places.{station_of}
 use Rattle.rules.specs.House.{Row, Sizes, House}
 use Rattle.rules.specs.Sound.{place_in, stage_in, passed_in, notice_in}

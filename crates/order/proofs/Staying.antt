@@ -2,6 +2,7 @@
 use Rattle.std.proofs.Common.{◌≡◌, ℕ, suc, ◌<◌, Bool, true, false, not, ltb, ◌≢◌, List, [], ◌∷◌, ◌++◌, Some, None, Option, sym, refl, ap, subst, ⊎_elim}
 use mathlib.Core.Path.{subst⁻¹}
 use Rattle.std.proofs.lemmas.Bool.{cases_Bool, and_parts, and_from, or_left, or_cases, both_ways, ltb-true, lt-ltb, eqb-false, ne_eqb, not-true}
+use Rattle.std.specs.List.{list_all}
 use Rattle.tally.specs.Counts.{Counts}
 use Rattle.rules.specs.declared.place.Place.TheVariants.{Kept, Leaving, OnWay}
 use Rattle.rules.specs.declared.place.Stage.{Stage}
@@ -9,7 +10,6 @@ use Rattle.rules.specs.declared.place.Stage.TheVariants.{Wire, Back, Unread, Rea
 use Rattle.rules.specs.declared.place.Notice.{Notice}
 use Rattle.rules.specs.declared.call.Call.{Call}
 use Rattle.rules.specs.declared.call.Call.TheVariants.{Send, Arrive, ReadNext, Register, Release, Settle}
-use Rattle.std.specs.List.{list_all}
 use Rattle.rules.specs.Functions.{updated, front, rest, is_some, or_else}
 use Rattle.rules.specs.Places.{station_of, holds, heading, is_wire}
 use Rattle.rules.specs.House.{Row, House}

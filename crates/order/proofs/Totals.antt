@@ -1,9 +1,9 @@
 -- Sums over numbers below a given one, and by them: a station has no more notices than handsets are leaving it.
 use Rattle.std.proofs.Common.{◌≡◌, ℕ, zero, suc, ◌+◌, ◌<◌, ◌≤◌, Bool, true, eqb, ltb, List, [], ◌∷◌, length, sym, refl, ⊎_elim, not-suc-le-zero, ne_of_lt, arith}
 use Rattle.std.proofs.lemmas.Bool.{and_parts, ltb-true}
+use Rattle.std.specs.List.{list_all}
 use Rattle.rules.specs.declared.place.Place.{Place}
 use Rattle.rules.specs.declared.place.Notice.{Notice}
-use Rattle.std.specs.List.{list_all}
 use Rattle.rules.specs.Functions.{bit, how_many}
 use Rattle.rules.specs.Places.{leaves}
 use Rattle.rules.specs.Sound.{notice_in}

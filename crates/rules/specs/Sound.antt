@@ -10,12 +10,12 @@
 --                  the house, and its notices name handsets and stations of the house
 --   sound          there are at most as many rows in use as rows, and all of that holds
 use Rattle.std.specs.Prelude.{ℕ, ◌+◌, Bool, not, ◌&&◌, ◌||◌, List, length, Option, ◌==◌, nat_le, nat_lt}
+use Rattle.std.specs.List.{list_all}
 use Rattle.tally.specs.declared.pair.Pair.{Pair}
 use Rattle.rules.specs.declared.place.Place.{Place}
 use Rattle.rules.specs.declared.place.Place.TheVariants.{Kept, Leaving, OnWay}
 use Rattle.rules.specs.declared.place.Stage.{Stage}
 use Rattle.rules.specs.declared.place.Notice.{Notice}
-use Rattle.std.specs.List.{list_all}
 use Rattle.rules.specs.Functions.{all_below, how_many, is_some, or_else}
 use Rattle.rules.specs.Places.{heading, is_wire, leaves}
 use Rattle.rules.specs.House.{House}

@@ -87,10 +87,10 @@ impl<T: Tally, B> Tables<'_, T, B> {
     // A handset's unread list; none exactly where the table has not all its places.
     pub fn unread(&self, handset: u16) -> Option<&[u16]>
         ensures is { IfSome result (λ names. names.now ≡ (view T.Tally.counts self.now).unread handset) }
-        ensures there { IsSome result ↔ (handset * self.now.head.now.places + length ((view T.Tally.counts self.now).unread handset) ≤ length self.now.unread.now) }
+        ensures there { IsSome result ↔ (handset * self.now.head.now.numbers.places + length ((view T.Tally.counts self.now).unread handset) ≤ length self.now.unread.now) }
     {
         let filled = self.unread_length(handset);
-        first_places(self.unread, handset, self.head.places, filled)
+        first_places(self.unread, handset, self.head.numbers.places, filled)
     }
 
     // How many messages of its book stand back.
@@ -105,10 +105,10 @@ impl<T: Tally, B> Tables<'_, T, B> {
     // A handset's back list; none exactly where the table has not all its places.
     pub fn back(&self, handset: u16) -> Option<&[u16]>
         ensures is { IfSome result (λ names. names.now ≡ (view T.Tally.counts self.now).back handset) }
-        ensures there { IsSome result ↔ (handset * self.now.head.now.places + length ((view T.Tally.counts self.now).back handset) ≤ length self.now.back.now) }
+        ensures there { IsSome result ↔ (handset * self.now.head.now.numbers.places + length ((view T.Tally.counts self.now).back handset) ≤ length self.now.back.now) }
     {
         let filled = self.back_length(handset);
-        first_places(self.back, handset, self.head.places, filled)
+        first_places(self.back, handset, self.head.numbers.places, filled)
     }
 
     // A station's tally.
@@ -133,10 +133,10 @@ impl<T: Tally, B> Tables<'_, T, B> {
     // A station's notices; none exactly where the table has not all their places.
     pub fn notices(&self, station: u16) -> Option<&[Notice]>
         ensures is { IfSome result (λ notices. notices.now ≡ (view T.Tally.counts self.now).notices station) }
-        ensures there { IsSome result ↔ (station * self.now.head.now.handsets + length ((view T.Tally.counts self.now).notices station) ≤ length self.now.notices.now) }
+        ensures there { IsSome result ↔ (station * self.now.head.now.numbers.handsets + length ((view T.Tally.counts self.now).notices station) ≤ length self.now.notices.now) }
     {
         let filled = self.notice_count(station);
-        first_places(self.notices, station, self.head.handsets, filled)
+        first_places(self.notices, station, self.head.numbers.handsets, filled)
     }
 
     // The station to which a station last passed a handset on; a row has entries for 32 handsets.

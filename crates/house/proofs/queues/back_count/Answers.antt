@@ -7,6 +7,6 @@ pub returns : goal.returns
 returns g c =
     let t = c.args.tables.now in
     record {
-      column = c.back_length.ensures ∙ part_length 0 c.args.handset t.head.now.places (back_lengths t.handsets.now c.args.handset) t.back.now;
+      column = c.back_length.ensures ∙ part_length 0 c.args.handset t.head.now.numbers.places (back_lengths t.handsets.now c.args.handset) t.back.now;
       is = c.back_length.ensures;
     }

@@ -7,6 +7,6 @@ pub returns : goal.returns
 returns g c =
     let t = c.args.tables.now in
     record {
-      column = c.unread_length.ensures ∙ part_length 0 c.args.handset t.head.now.places (unread_lengths t.handsets.now c.args.handset) t.unread.now;
+      column = c.unread_length.ensures ∙ part_length 0 c.args.handset t.head.now.numbers.places (unread_lengths t.handsets.now c.args.handset) t.unread.now;
       is = c.unread_length.ensures;
     }
