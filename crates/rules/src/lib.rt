@@ -13,10 +13,12 @@ use tally::Pair;
 
 mod call;
 mod fault;
+mod numbers;
 mod place;
 
-pub use call::{Answer, Arrived, Call};
+pub use call::{Answer, Arrived, Call, Granted};
 pub use fault::HouseFault;
+pub use numbers::Numbers;
 pub use place::{Notice, Place, Stage};
 
 impl From<StationFault> for HouseFault {
@@ -28,7 +30,7 @@ impl From<StationFault> for HouseFault {
 }
 
 impl HouseFault {
-    // The refusal's number. What refusals tell is never the same of two of them.
+    // The refusal's number, which the project fixes. What refusals tell is never the same of two of them.
     pub fn number(self) -> u8
         ensures is { result ≡ (tells self).number }
         ensures told_apart { (other : Fault) → tells other ≡ tells self → other ≡ self }
