@@ -2,9 +2,10 @@
 -- handsets, and of the stations.
 use Rattle.std.proofs.Common.{◌≡◌, ℕ, ◌<◌, ◌≤◌, Bool, true, false, not, ◌||◌, eqb, ltb, leb, length, get_or, sym, refl, subst, ⊎_elim, arith}
 use Rattle.std.proofs.lemmas.Bool.{and_parts, or_cases, leb-true, ltb-true, eqb-true, eqb-false, not-true, both_ways, false≢true}
+use Rattle.std.specs.List.{list_all}
 use Rattle.rules.specs.declared.place.Place.{Place}
 use Rattle.rules.specs.declared.place.Place.TheVariants.{Kept, Leaving, OnWay}
-use Rattle.rules.specs.Functions.{all_below, all_in, how_many, any, front, is_some, or_else}
+use Rattle.rules.specs.Functions.{all_below, how_many, any, front, is_some, or_else}
 use Rattle.rules.specs.Places.{station_of, is_kept, leaves, heading, is_wire}
 use Rattle.rules.specs.House.{House}
 use Rattle.rules.specs.Steps.{notice}
@@ -133,7 +134,7 @@ module _ {B : Type 0} (s : House B) (e : sound s ≡ true) where
     pub station_is_sound : station_sound s p ≡ true
     station_is_sound = below_at (station_sound s) s.sizes.stations parts.3 p l
 
-    station_parts : (leb (length (s.notices p)) (how_many (λ j. leaves p (s.place j)) s.sizes.handsets) ≡ true) × (all_below (λ j. passed_in s.sizes.stations (s.passed p j)) s.sizes.handsets ≡ true) × (all_in (notice_in s.sizes.handsets s.sizes.stations) (s.notices p) ≡ true)
+    station_parts : (leb (length (s.notices p)) (how_many (λ j. leaves p (s.place j)) s.sizes.handsets) ≡ true) × (all_below (λ j. passed_in s.sizes.stations (s.passed p j)) s.sizes.handsets ≡ true) × (list_all (notice_in s.sizes.handsets s.sizes.stations) (s.notices p) ≡ true)
     station_parts =
         let a = and_parts _ _ station_is_sound in
         let b = and_parts _ _ a.0 in
@@ -156,7 +157,7 @@ module _ {B : Type 0} (s : House B) (e : sound s ≡ true) where
     passed_station j h y =
         ltb-true _ _ (unless (is_some (s.passed p j)) (ltb (or_else 0 (s.passed p j)) s.sizes.stations) (passed_is_in j h) y)
 
-    pub notices_in : all_in (notice_in s.sizes.handsets s.sizes.stations) (s.notices p) ≡ true
+    pub notices_in : list_all (notice_in s.sizes.handsets s.sizes.stations) (s.notices p) ≡ true
     notices_in = station_parts.2
 
     -- each notice names a handset and a station of the house

@@ -1,10 +1,9 @@
--- Passes that ask the same of every number below a given one, or of everything in a list: what a pass keeps true, and
--- what a yes says.
-use Rattle.std.proofs.Common.{◌≡◌, ℕ, zero, suc, ◌+◌, ◌<◌, ◌≤◌, Bool, true, false, ◌&&◌, List, [], ◌∷◌, length, get_or, drop, sym, refl, ap, ◌∙◌, subst, ⊎_elim, add-one, arith, lit≤}
+-- Of how many numbers a test holds, and what a yes to every number below a given one or to everything in a list says.
+use Rattle.std.proofs.Common.{◌≡◌, ℕ, zero, suc, ◌+◌, ◌<◌, ◌≤◌, Bool, true, false, List, [], ◌∷◌, length, get_or, refl, ap, subst, ⊎_elim, add-one, arith, lit≤}
 use mathlib.Core.Path.{subst⁻¹}
-use Rattle.std.proofs.lemmas.List.{at_drop_more, at_drop_all}
-use Rattle.std.proofs.lemmas.Bool.{cases_eq, and_from, and_parts, cases_Bool, both_ways, false≢true}
-use Rattle.rules.specs.Functions.{all_below, all_in, how_many, bit, any, front}
+use Rattle.std.proofs.lemmas.Bool.{cases_eq, and_parts, false≢true}
+use Rattle.std.specs.List.{list_all}
+use Rattle.rules.specs.Functions.{all_below, how_many, bit, any, front}
 
 bit_few : (b : Bool) → bit b ≤ 1
 bit_few true = lit≤ tt
@@ -12,14 +11,6 @@ bit_few false = lit≤ tt
 
 -- numbers below a given one
 module _ (p : ℕ → Bool) where
-  pub below_none : all_below p 0 ≡ true
-  unfolding all_below
-  below_none = refl
-
-  pub below_more : (i : ℕ) → true ≡ p i → all_below p i ≡ true → all_below p (i + 1) ≡ true
-  unfolding all_below
-  below_more i t e = rw add-one (and_from (all_below p i) (p i) e (sym t))
-
   -- a yes to all is a yes to each
   pub below_at : (n : ℕ) → all_below p n ≡ true → (i : ℕ) → i < n → p i ≡ true
   unfolding all_below
@@ -27,11 +18,6 @@ module _ (p : ℕ → Bool) where
   below_at (suc n) e i l =
       let both = and_parts (all_below p n) (p n) e in
       ⊎_elim (λ k. subst⁻¹ (λ m. p m ≡ true) k both.1) (λ ne. below_at n both.0 i (omega arith)) (cases_eq i n)
-
-  -- a no to one is a no to all
-  pub below_stop : (n i : ℕ) → i < n → false ≡ p i → false ≡ all_below p n
-  below_stop n i l f =
-      ⊎_elim (λ (e : all_below p n ≡ true). absurd (both_ways (p i) (sym f) (below_at n e i l))) (λ e. sym e) (cases_Bool (all_below p n))
 
   pub many_none : 0 ≡ how_many p 0
   unfolding how_many
@@ -59,29 +45,11 @@ module _ (p : ℕ → Bool) where
 -- everything in a list
 module _ {X : Type 0} (p : X → Bool) where
   -- a yes to all is a yes to each
-  pub in_at : (xs : List X) → all_in p xs ≡ true → (i : ℕ) → i < length xs → (d : X) → p (get_or xs i d) ≡ true
-  unfolding all_in
+  pub in_at : (xs : List X) → list_all p xs ≡ true → (i : ℕ) → i < length xs → (d : X) → p (get_or xs i d) ≡ true
   in_at [] e i l d = let b : ⊥ = omega arith in absurd b
-  in_at (x ∷ xs) e zero l d = (and_parts (p x) (all_in p xs) e).0
-  in_at (x ∷ xs) e (suc i) l d = in_at xs (and_parts (p x) (all_in p xs) e).1 i (omega arith) d
+  in_at (x ∷ xs) e zero l d = (and_parts (p x) (list_all p xs) e).0
+  in_at (x ∷ xs) e (suc i) l d = in_at xs (and_parts (p x) (list_all p xs) e).1 i (omega arith) d
 
-  pub in_front : (xs : List X) → all_in p xs ≡ true → any xs ≡ true → (d : X) → p (front d xs) ≡ true
-  unfolding all_in
+  pub in_front : (xs : List X) → list_all p xs ≡ true → any xs ≡ true → (d : X) → p (front d xs) ≡ true
   in_front [] e a d = absurd (false≢true a)
-  in_front (x ∷ xs) e a d = (and_parts (p x) (all_in p xs) e).0
-
-  module _ (xs : List X) (i : ℕ) where
-    in_step : (d : X) → i < length xs → all_in p (drop i xs) ≡ (p (get_or xs i d) && all_in p (drop (i + 1) xs))
-    unfolding all_in
-    in_step d l = at_drop_more (all_in p) xs i d l
-
-    pub in_more : (d : X) → i < length xs → true ≡ p (get_or xs i d) → all_in p (drop i xs) ≡ all_in p xs → all_in p (drop (i + 1) xs) ≡ all_in p xs
-    in_more d l t e = sym (rw (← t) at (in_step d l)) ∙ e
-
-    -- a no to one is a no to all
-    pub in_stop : (d : X) → i < length xs → false ≡ p (get_or xs i d) → all_in p (drop i xs) ≡ all_in p xs → false ≡ all_in p xs
-    in_stop d l f e = sym (rw (← f) at (in_step d l)) ∙ e
-
-    pub in_done : length xs ≤ i → all_in p (drop i xs) ≡ all_in p xs → true ≡ all_in p xs
-    unfolding all_in
-    in_done l e = let m : all_in p (drop i xs) ≡ true = at_drop_all (all_in p) xs i l in sym m ∙ e
+  in_front (x ∷ xs) e a d = (and_parts (p x) (list_all p xs) e).0

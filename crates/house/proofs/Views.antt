@@ -112,22 +112,22 @@ module _ {T B : Type 0} (counts : T → Counts) (w : Whole T B) where
           sizes = sizes_of w;
           used = w.head.used;
           counts = counts_of counts w.stations;
-          notices = held (notice 0 0) w.head.handsets (notice_lengths w.stations) w.notices;
+          notices = held (notice 0 0) w.head.numbers.handsets (notice_lengths w.stations) w.notices;
           passed = passed_of w.stations;
           place = P;
           handed = Hd;
           carried = C;
-          unread = held 0 w.head.places U us;
-          back = held 0 w.head.places K bs;
+          unread = held 0 w.head.numbers.places U us;
+          back = held 0 w.head.numbers.places K bs;
           rows = rows_of counts w.roll;
           stage = stages_of w.roll;
         }
     handsets_changed us bs P Hd C U K lu lb p h c u k = λ i. record {
       sizes = record {
-        stations = w.head.stations;
-        handsets = w.head.handsets;
-        rows = w.head.rows;
-        places = w.head.places;
+        stations = w.head.numbers.stations;
+        handsets = w.head.numbers.handsets;
+        rows = w.head.numbers.rows;
+        places = w.head.numbers.places;
         lengths = record {
           stations = length w.stations;
           handsets = length_modify w.handsets j g i;
@@ -139,13 +139,13 @@ module _ {T B : Type 0} (counts : T → Counts) (w : Whole T B) where
       };
       used = w.head.used;
       counts = counts_of counts w.stations;
-      notices = held (notice 0 0) w.head.handsets (notice_lengths w.stations) w.notices;
+      notices = held (notice 0 0) w.head.numbers.handsets (notice_lengths w.stations) w.notices;
       passed = passed_of w.stations;
       place = p i;
       handed = h i;
       carried = c i;
-      unread = held 0 w.head.places (u i) us;
-      back = held 0 w.head.places (k i) bs;
+      unread = held 0 w.head.numbers.places (u i) us;
+      back = held 0 w.head.numbers.places (k i) bs;
       rows = rows_of counts w.roll;
       stage = stages_of w.roll;
     }
@@ -185,7 +185,7 @@ module _ {T B : Type 0} (counts : T → Counts) (w : Whole T B) where
 
     -- the handset's unread list is another, with its length
     pub unread_view : (n : ℕ) (xs l : List ℕ) → length xs ≡ length w.unread →
-        held 0 w.head.places (updated (unread_lengths w.handsets) j n) xs ≡ updated (viewed counts w).unread j l →
+        held 0 w.head.numbers.places (updated (unread_lengths w.handsets) j n) xs ≡ updated (viewed counts w).unread j l →
         viewed counts (with_unread_places xs (modify w.handsets j (unread_as n))) ≡ with_unread (updated (viewed counts w).unread j l) (viewed counts w)
     unread_view n xs l long is =
         handsets_changed j (unread_as n) xs w.back _ _ _ _ _ long refl
@@ -195,7 +195,7 @@ module _ {T B : Type 0} (counts : T → Counts) (w : Whole T B) where
 
     -- its back list likewise
     pub back_view : (n : ℕ) (xs l : List ℕ) → length xs ≡ length w.back →
-        held 0 w.head.places (updated (back_lengths w.handsets) j n) xs ≡ updated (viewed counts w).back j l →
+        held 0 w.head.numbers.places (updated (back_lengths w.handsets) j n) xs ≡ updated (viewed counts w).back j l →
         viewed counts (with_back_places xs (modify w.handsets j (back_as n))) ≡ with_back (updated (viewed counts w).back j l) (viewed counts w)
     back_view n xs l long is =
         handsets_changed j (back_as n) w.unread xs _ _ _ _ _ refl long
@@ -215,7 +215,7 @@ module _ {T B : Type 0} (counts : T → Counts) (w : Whole T B) where
           sizes = sizes_of w;
           used = w.head.used;
           counts = C;
-          notices = held (notice 0 0) w.head.handsets N ns;
+          notices = held (notice 0 0) w.head.numbers.handsets N ns;
           passed = P;
           place = places_of w.handsets;
           handed = handed_of w.handsets;
@@ -227,10 +227,10 @@ module _ {T B : Type 0} (counts : T → Counts) (w : Whole T B) where
         }
     stations_changed ns C P N ln c q n = λ i. record {
       sizes = record {
-        stations = w.head.stations;
-        handsets = w.head.handsets;
-        rows = w.head.rows;
-        places = w.head.places;
+        stations = w.head.numbers.stations;
+        handsets = w.head.numbers.handsets;
+        rows = w.head.numbers.rows;
+        places = w.head.numbers.places;
         lengths = record {
           stations = length_modify w.stations p g i;
           handsets = length w.handsets;
@@ -242,7 +242,7 @@ module _ {T B : Type 0} (counts : T → Counts) (w : Whole T B) where
       };
       used = w.head.used;
       counts = c i;
-      notices = held (notice 0 0) w.head.handsets (n i) ns;
+      notices = held (notice 0 0) w.head.numbers.handsets (n i) ns;
       passed = q i;
       place = places_of w.handsets;
       handed = handed_of w.handsets;
@@ -274,7 +274,7 @@ module _ {T B : Type 0} (counts : T → Counts) (w : Whole T B) where
 
     -- the station's notices are others, with their number
     pub notices_view : (n : ℕ) (xs l : List Notice) → length xs ≡ length w.notices →
-        held (notice 0 0) w.head.handsets (updated (notice_lengths w.stations) p n) xs ≡ updated (viewed counts w).notices p l →
+        held (notice 0 0) w.head.numbers.handsets (updated (notice_lengths w.stations) p n) xs ≡ updated (viewed counts w).notices p l →
         viewed counts (with_notice_places xs (modify w.stations p (noticing n))) ≡ with_notices (updated (viewed counts w).notices p l) (viewed counts w)
     notices_view n xs l long is =
         stations_changed p (noticing n) xs _ _ _ long
@@ -288,10 +288,10 @@ module _ {T B : Type 0} (counts : T → Counts) (w : Whole T B) where
         viewed counts (with_roll (modify w.roll m g)) ≡ with_rows R (with_stage S (viewed counts w))
     roll_changed g R S r s = λ i. record {
       sizes = record {
-        stations = w.head.stations;
-        handsets = w.head.handsets;
-        rows = w.head.rows;
-        places = w.head.places;
+        stations = w.head.numbers.stations;
+        handsets = w.head.numbers.handsets;
+        rows = w.head.numbers.rows;
+        places = w.head.numbers.places;
         lengths = record {
           stations = length w.stations;
           handsets = length w.handsets;

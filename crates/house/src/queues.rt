@@ -14,13 +14,13 @@ use tally::Tally;
 // Puts a name at the end of a handset's unread list.
 pub(crate) fn put_unread<T: Tally, B: Copy>(tables: &mut Tables<'_, T, B>, handset: u16, name: u16)
     requires there { handset < length tables.old.handsets.now }
-    requires room { HasRoom (view T.Tally.counts tables.old) ((view T.Tally.counts tables.old).unread handset) tables.old.head.now.places }
+    requires room { HasRoom (view T.Tally.counts tables.old) ((view T.Tally.counts tables.old).unread handset) tables.old.head.now.numbers.places }
     ensures { view T.Tally.counts tables.new ≡ with_unread (updated (view T.Tally.counts tables.old).unread handset ((view T.Tally.counts tables.old).unread handset ++ (name ∷ []))) (view T.Tally.counts tables.old) }
 {
     let row = &mut tables.handsets[handset as usize];
     let own = Row {
         number: handset,
-        width: tables.head.places,
+        width: tables.head.numbers.places,
     };
     let _ = own.put_in(&mut *tables.unread, &mut row.unread, name);
 }
@@ -34,7 +34,7 @@ pub(crate) fn take_unread<T: Tally, B: Copy>(tables: &mut Tables<'_, T, B>, hand
     let row = &mut tables.handsets[handset as usize];
     let own = Row {
         number: handset,
-        width: tables.head.places,
+        width: tables.head.numbers.places,
     };
     let _ = own.take_in(&mut *tables.unread, &mut row.unread, at);
 }
@@ -42,13 +42,13 @@ pub(crate) fn take_unread<T: Tally, B: Copy>(tables: &mut Tables<'_, T, B>, hand
 // Puts a name at the end of a handset's back list.
 pub(crate) fn put_back<T: Tally, B: Copy>(tables: &mut Tables<'_, T, B>, handset: u16, name: u16)
     requires there { handset < length tables.old.handsets.now }
-    requires room { HasRoom (view T.Tally.counts tables.old) ((view T.Tally.counts tables.old).back handset) tables.old.head.now.places }
+    requires room { HasRoom (view T.Tally.counts tables.old) ((view T.Tally.counts tables.old).back handset) tables.old.head.now.numbers.places }
     ensures { view T.Tally.counts tables.new ≡ with_back (updated (view T.Tally.counts tables.old).back handset ((view T.Tally.counts tables.old).back handset ++ (name ∷ []))) (view T.Tally.counts tables.old) }
 {
     let row = &mut tables.handsets[handset as usize];
     let own = Row {
         number: handset,
-        width: tables.head.places,
+        width: tables.head.numbers.places,
     };
     let _ = own.put_in(&mut *tables.back, &mut row.back, name);
 }
@@ -62,7 +62,7 @@ pub(crate) fn take_back<T: Tally, B: Copy>(tables: &mut Tables<'_, T, B>, handse
     let row = &mut tables.handsets[handset as usize];
     let own = Row {
         number: handset,
-        width: tables.head.places,
+        width: tables.head.numbers.places,
     };
     let _ = own.take_in(&mut *tables.back, &mut row.back, at);
 }
@@ -74,13 +74,13 @@ pub(crate) fn put_notice<T: Tally, B: Copy>(
     notice: Notice,
 )
     requires there { station < length tables.old.stations.now }
-    requires room { HasRoom (view T.Tally.counts tables.old) ((view T.Tally.counts tables.old).notices station) tables.old.head.now.handsets }
+    requires room { HasRoom (view T.Tally.counts tables.old) ((view T.Tally.counts tables.old).notices station) tables.old.head.now.numbers.handsets }
     ensures { view T.Tally.counts tables.new ≡ with_notices (updated (view T.Tally.counts tables.old).notices station ((view T.Tally.counts tables.old).notices station ++ (notice ∷ []))) (view T.Tally.counts tables.old) }
 {
     let row = &mut tables.stations[station as usize];
     let own = Row {
         number: station,
-        width: tables.head.handsets,
+        width: tables.head.numbers.handsets,
     };
     let _ = own.put_in(&mut *tables.notices, &mut row.notices, notice);
 }
@@ -94,7 +94,7 @@ pub(crate) fn take_notice<T: Tally, B: Copy>(tables: &mut Tables<'_, T, B>, stat
     let row = &mut tables.stations[station as usize];
     let own = Row {
         number: station,
-        width: tables.head.handsets,
+        width: tables.head.numbers.handsets,
     };
     let _ = own.take_in(&mut *tables.notices, &mut row.notices, at);
 }

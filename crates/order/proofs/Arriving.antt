@@ -1,20 +1,20 @@
 -- A granted arrival keeps what holds between calls: the message is handed, stands back, or is sent on.
-use Rattle.std.proofs.Common.{◌≡◌, ℕ, suc, ◌+◌, ◌<◌, ◌≤◌, true, false, ◌≢◌, List, [], ◌∷◌, ◌++◌, length, sym, refl, ap, ◌∙◌, subst, ⊎_elim, le_of_eq, le_refl, arith}
+use Rattle.std.proofs.Common.{◌≡◌, ℕ, suc, ◌+◌, ◌<◌, ◌≤◌, true, false, ◌≢◌, List, [], ◌∷◌, ◌++◌, length, sym, refl, ap, ◌∙◌, subst, ⊎_elim, le_of_eq, le_refl, arith, Ok}
 use mathlib.Core.Path.{subst⁻¹}
 use Rattle.std.proofs.lemmas.List.{length_push}
 use Rattle.std.proofs.lemmas.Bool.{cases_eq, cond_both}
 use Rattle.rules.specs.declared.place.Stage.{Stage}
 use Rattle.rules.specs.declared.place.Stage.TheVariants.{Wire, Back, Unread}
 use Rattle.rules.specs.declared.call.Call.TheVariants.{Arrive}
-use Rattle.rules.specs.declared.call.Answer.{Answer}
-use Rattle.rules.specs.declared.call.Answer.TheVariants.{Handed, SentOn}
+use Rattle.rules.specs.declared.call.Arrived.TheVariants.{Handed, SentOn}
+use Rattle.rules.specs.declared.call.Granted.TheVariants.{Arrived}
 use Rattle.rules.specs.Functions.{updated, times, or_else}
 use Rattle.rules.specs.Places.{holds, is_wire, is_back, is_unread, is_read, is_handed}
 use Rattle.rules.specs.House.{Row, House}
 use Rattle.rules.specs.Changes.{with_back, with_stage}
 use Rattle.rules.specs.Sound.{book}
 use Rattle.rules.specs.Asking.{pair_of, beside, ripe}
-use Rattle.rules.specs.Steps.{hand, hand_all, stand_back, send_on, arrive_at}
+use Rattle.rules.specs.Steps.{Answer, hand, hand_all, stand_back, send_on, arrive_at}
 use Rattle.rules.specs.Runs.{History}
 use Rattle.order.proofs.Basics.{updated_here, updated_off, updated_both, updated_id}
 use Rattle.order.proofs.Lists.{times_push, bit_other}
@@ -30,10 +30,10 @@ use Rattle.order.proofs.Invariant.{Invariant}
 module _ {B : Type 0} where
   -- the three ways of an arrival at station p, of the message x with the row r
   pub arrive_ways : (P : Answer B × House B → Type 0) (p : ℕ) (r : Row B) (x : ℕ) (s : House B)
-      → (holds p (s.place r.addressee) ≡ true → ripe s.sizes.stations s.handed r ≡ true → P (Handed (hand_all r x s).0, (hand_all r x s).1))
-      → (holds p (s.place r.addressee) ≡ true → ripe s.sizes.stations s.handed r ≡ false → P (Handed 0, stand_back r x s))
+      → (holds p (s.place r.addressee) ≡ true → ripe s.sizes.stations s.handed r ≡ true → P (Ok (Arrived (Handed (hand_all r x s).0)), (hand_all r x s).1))
+      → (holds p (s.place r.addressee) ≡ true → ripe s.sizes.stations s.handed r ≡ false → P (Ok (Arrived (Handed 0)), stand_back r x s))
       → (holds p (s.place r.addressee) ≡ false
-      → P (SentOn (or_else 0 (s.passed p r.addressee)), send_on (or_else 0 (s.passed p r.addressee)) x s))
+      → P (Ok (Arrived (SentOn (or_else 0 (s.passed p r.addressee)))), send_on (or_else 0 (s.passed p r.addressee)) x s))
       → P (arrive_at p r x s)
   arrive_ways P p r x s hands stands goes_on = cond_both _ _ _ P (λ held. cond_both _ _ _ P (hands held) (stands held)) goes_on
 
@@ -75,7 +75,7 @@ module _ {B : Type 0} where
       noticed = I.core.noticed;
     }
 
-    keep_send_on : (n : ℕ) → Invariant R ((Arrive x, SentOn n) ∷ h) (send_on n x s)
+    keep_send_on : (n : ℕ) → Invariant R ((Arrive x, Ok (Arrived (SentOn n))) ∷ h) (send_on n x s)
     unfolding send_on
     keep_send_on n = record {
       core = core_stage (Wire n) s.back refl refl refl
@@ -86,7 +86,7 @@ module _ {B : Type 0} where
     }
 
     keep_stand_back : ripe s.sizes.stations s.handed (R x) ≡ false → suc (book s (R x).addressee) < s.sizes.places
-        → Invariant R ((Arrive x, Handed 0) ∷ h) (stand_back (R x) x s)
+        → Invariant R ((Arrive x, Ok (Arrived (Handed 0))) ∷ h) (stand_back (R x) x s)
     unfolding stand_back
     keep_stand_back unripe room = record {
       core = core_stage Back (updated s.back j l) refl refl refl
@@ -108,9 +108,9 @@ module _ {B : Type 0} where
         l = s.back j ++ (x ∷ [])
 
     keep_hand : (n : ℕ) → ripe s.sizes.stations s.handed (R x) ≡ true → book s (R x).addressee < s.sizes.places
-        → Invariant R ((Arrive x, Handed n) ∷ h) (hand_all (R x) x s).1
+        → Invariant R ((Arrive x, Ok (Arrived (Handed n))) ∷ h) (hand_all (R x) x s).1
     unfolding hand
-    keep_hand n rp room = subst⁻¹ (Invariant R ((Arrive x, Handed n) ∷ h)) D.is (record {
+    keep_hand n rp room = subst⁻¹ (Invariant R ((Arrive x, Ok (Arrived (Handed n))) ∷ h)) D.is (record {
       core = D.core;
       quiet = record {
         none_ripe = λ i m t. ⊎_elim (λ e. D.none_ripe m (subst (λ y. 0 < times m (D.back y)) e t))

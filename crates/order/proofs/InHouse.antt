@@ -1,18 +1,18 @@
 -- Every table of a house names only stations, handsets and messages of that house. Opening a house sees to that.
 use Rattle.std.proofs.Common.{◌≡◌, ℕ, zero, suc, ◌<◌, ◌≤◌, Bool, true, not, ◌&&◌, eqb, ltb, leb, List, [], ◌∷◌, length, get_or, None, refl, not-suc-le-zero, arith}
 use Rattle.std.proofs.lemmas.Bool.{and_parts, ltb-true, lt-ltb, leb-true}
+use Rattle.std.specs.List.{list_all}
 use Rattle.questions.specs.Asking.{first_no}
 use Rattle.questions.proofs.Asked.{AllYes, all_yes}
 use Rattle.rules.specs.declared.place.Place.{Place}
 use Rattle.rules.specs.declared.place.Place.TheVariants.{Kept, Leaving, OnWay}
 use Rattle.rules.specs.declared.fault.HouseFault.TheVariants.{StartList}
-use Rattle.rules.specs.Functions.{all_in}
 use Rattle.rules.specs.Places.{station_of}
 use Rattle.rules.specs.House.{Row, Sizes, House}
 use Rattle.rules.specs.Sound.{place_in, stage_in, passed_in, notice_in}
 use Rattle.rules.specs.Asking.{shape_questions}
 use Rattle.rules.specs.Opening.{start_right, start_station, opening_refusal, opened}
-use Rattle.order.proofs.Lists.{all_in_nil, all_in_cons}
+use Rattle.order.proofs.Lists.{list_all_nil, list_all_cons}
 use Rattle.order.proofs.Granted.{both_none}
 
 pub station_in : (stations : ℕ) (pl : Place) → place_in stations pl ≡ true → station_of pl < stations
@@ -36,17 +36,17 @@ module _ {B : Type 0} where
     pub stages_in : (m : ℕ) → m < s.used → stage_in s.sizes.stations (s.stage m) ≡ true
     pub places_in : (j : ℕ) → j < s.sizes.handsets → place_in s.sizes.stations (s.place j) ≡ true
     pub passed_on : (p j : ℕ) → passed_in s.sizes.stations (s.passed p j) ≡ true
-    pub notices_in : (p : ℕ) → all_in (notice_in s.sizes.handsets s.sizes.stations) (s.notices p) ≡ true
+    pub notices_in : (p : ℕ) → list_all (notice_in s.sizes.handsets s.sizes.stations) (s.notices p) ≡ true
 
 -- the stations that a right start list names
-listed_in : (stations : ℕ) (l : List ℕ) → all_in (λ p. ltb p stations) l ≡ true → 0 < stations → (j : ℕ) → get_or l j 0 < stations
+listed_in : (stations : ℕ) (l : List ℕ) → list_all (λ p. ltb p stations) l ≡ true → 0 < stations → (j : ℕ) → get_or l j 0 < stations
 listed_in stations [] e z j = z
-listed_in stations (x ∷ l) e z zero = ltb-true _ _ (all_in_cons (λ p. ltb p stations) x l e).0
-listed_in stations (x ∷ l) e z (suc j) = listed_in stations l (all_in_cons (λ p. ltb p stations) x l e).1 z j
+listed_in stations (x ∷ l) e z zero = ltb-true _ _ (list_all_cons (λ p. ltb p stations) x l e).0
+listed_in stations (x ∷ l) e z (suc j) = listed_in stations l (list_all_cons (λ p. ltb p stations) x l e).1 z j
 
 start_in : (z : Sizes) (l : List ℕ) → start_right z l ≡ true → 0 < z.stations → (j : ℕ) → start_station l j < z.stations
 start_in z [] e h j = h
-start_in z (x ∷ l) e h j = listed_in z.stations (x ∷ l) (and_parts (eqb (length (x ∷ l)) z.handsets) (all_in (λ p. ltb p z.stations) (x ∷ l)) e).1 h j
+start_in z (x ∷ l) e h j = listed_in z.stations (x ∷ l) (and_parts (eqb (length (x ∷ l)) z.handsets) (list_all (λ p. ltb p z.stations) (x ∷ l)) e).1 h j
 
 pub in_opened : {B : Type 0} (s : House B) (z : Sizes) (l : List ℕ) → opening_refusal z l ≡ None → InHouse (opened z l s)
 in_opened s z l e =
@@ -61,5 +61,5 @@ in_opened s z l e =
       stages_in = λ m l. absurd (not-suc-le-zero l);
       places_in = λ j _. lt-ltb _ _ (start_in z l right one j);
       passed_on = λ p j. refl;
-      notices_in = λ p. all_in_nil (notice_in z.handsets z.stations);
+      notices_in = λ p. list_all_nil (notice_in z.handsets z.stations);
     }

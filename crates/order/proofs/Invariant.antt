@@ -1,8 +1,7 @@
 -- What holds of a house and its history between any two calls. A denied call keeps it.
-use Rattle.std.proofs.Common.{◌≡◌, ℕ, ◌<◌, ◌≤◌, false, ◌∷◌, length, refl}
+use Rattle.std.proofs.Common.{◌≡◌, ℕ, ◌<◌, ◌≤◌, false, ◌∷◌, length, refl, Err}
 use Rattle.rules.specs.declared.fault.HouseFault.{HouseFault}
 use Rattle.rules.specs.declared.call.Call.{Call}
-use Rattle.rules.specs.declared.call.Answer.TheVariants.{Denied}
 use Rattle.rules.specs.Functions.{times}
 use Rattle.rules.specs.Places.{is_wire, is_read}
 use Rattle.rules.specs.House.{Row, House}
@@ -30,5 +29,5 @@ module _ {B : Type 0} where
     pub quiet : Quiet R s
     pub told : Told R s.used (λ m. is_read (s.stage m)) (λ m. is_wire (s.stage m)) h
 
-  pub keep_denied : {R : ℕ → Row B} {h : History B} {s : House B} (c : Call B) (e : HouseFault) → Invariant R h s → Invariant R ((c, Denied e) ∷ h) s
-  keep_denied c e I = record { core = I.core; quiet = I.quiet; told = told_skip I.told (c, Denied e) refl (λ m l. refl) (λ m l. refl) }
+  pub keep_denied : {R : ℕ → Row B} {h : History B} {s : House B} (c : Call B) (e : HouseFault) → Invariant R h s → Invariant R ((c, Err e) ∷ h) s
+  keep_denied c e I = record { core = I.core; quiet = I.quiet; told = told_skip I.told (c, Err e) refl (λ m l. refl) (λ m l. refl) }

@@ -5,13 +5,12 @@ use Rattle.std.proofs.lemmas.Bool.{true≢false, false≢true, and_parts, ltb-tr
 use Rattle.tally.specs.Counts.{Counts}
 use Rattle.rules.specs.declared.call.Call.{Call}
 use Rattle.rules.specs.declared.call.Call.TheVariants.{Send, Arrive, ReadNext, Register, Release, Settle}
-use Rattle.rules.specs.declared.call.Answer.{Answer}
 use Rattle.rules.specs.Functions.{times, any, front, rest}
 use Rattle.rules.specs.Places.{station_of, holds, heading, is_kept}
 use Rattle.rules.specs.House.{Row, House}
 use Rattle.rules.specs.Sound.{book}
 use Rattle.rules.specs.Asking.{ripe, refusal}
-use Rattle.rules.specs.Steps.{notice, hand, stand_back, send_on, new_row, send_from, read_at, register_at, release_from, settle_at, got, arrive_at, grant}
+use Rattle.rules.specs.Steps.{Answer, notice, hand, stand_back, send_on, new_row, send_from, read_at, register_at, release_from, settle_at, got, arrive_at, grant}
 use Rattle.rules.specs.Runs.{History}
 use Rattle.order.proofs.Basics.{updated_here, updated_off}
 use Rattle.order.proofs.Lists.{any_front, times_front}

@@ -2,7 +2,8 @@
 use Rattle.std.proofs.Common.{◌≡◌, ℕ, suc, ◌+◌, ◌<◌, Bool, true, false, eqb, ◌≢◌, ◌⊎◌, List, [], ◌∷◌, ◌++◌, length, Some, None, refl, ap, ◌∙◌, subst, inl, inr, ⊎_elim, not-suc-le-zero, arith}
 use mathlib.Core.Path.{subst⁻¹}
 use Rattle.std.proofs.lemmas.Bool.{eq-eqb, ne_eqb, eqb-true, eqb-false, cond_both, cases_eq, and_parts, and_from, false≢true}
-use Rattle.rules.specs.Functions.{bit, all_in, times, first, without, any, front, rest}
+use Rattle.std.specs.List.{list_all}
+use Rattle.rules.specs.Functions.{bit, times, first, without, any, front, rest}
 
 pub bit_same : (m x : ℕ) → m ≡ x → bit (eqb m x) ≡ 1
 bit_same m x e = ap bit (eq-eqb m x e)
@@ -60,21 +61,18 @@ pub any_front : {A : Type 0} (d : A) (l : List A) → any l ≡ true → l ≡ f
 any_front d [] e = absurd (false≢true e)
 any_front d (x ∷ l) e = refl
 
-pub all_in_from : (p : ℕ → Bool) (l : List ℕ) → ((m : ℕ) → 0 < times m l → p m ≡ true) → all_in p l ≡ true
-unfolding all_in times
-all_in_from p [] h = refl
-all_in_from p (x ∷ l) h = and_from _ _ (h x (times_front x l)) (all_in_from p l (λ m z. h m (omega arith)))
+pub list_all_from : (p : ℕ → Bool) (l : List ℕ) → ((m : ℕ) → 0 < times m l → p m ≡ true) → list_all p l ≡ true
+unfolding times
+list_all_from p [] h = refl
+list_all_from p (x ∷ l) h = and_from _ _ (h x (times_front x l)) (list_all_from p l (λ m z. h m (omega arith)))
 
 module _ {A : Type 0} (p : A → Bool) where
-  pub all_in_nil : all_in p [] ≡ true
-  unfolding all_in
-  all_in_nil = refl
+  pub list_all_nil : list_all p [] ≡ true
+  list_all_nil = refl
 
-  pub all_in_cons : (x : A) (l : List A) → all_in p (x ∷ l) ≡ true → (p x ≡ true) × (all_in p l ≡ true)
-  unfolding all_in
-  all_in_cons x l e = and_parts (p x) (all_in p l) e
+  pub list_all_cons : (x : A) (l : List A) → list_all p (x ∷ l) ≡ true → (p x ≡ true) × (list_all p l ≡ true)
+  list_all_cons x l e = and_parts (p x) (list_all p l) e
 
-  pub all_in_push : (l : List A) (x : A) → all_in p l ≡ true → p x ≡ true → all_in p (l ++ (x ∷ [])) ≡ true
-  unfolding all_in
-  all_in_push [] x e f = and_from (p x) true f refl
-  all_in_push (y ∷ l) x e f = let w = and_parts (p y) (all_in p l) e in and_from _ _ w.0 (all_in_push l x w.1 f)
+  pub list_all_push : (l : List A) (x : A) → list_all p l ≡ true → p x ≡ true → list_all p (l ++ (x ∷ [])) ≡ true
+  list_all_push [] x e f = and_from (p x) true f refl
+  list_all_push (y ∷ l) x e f = let w = and_parts (p y) (list_all p l) e in and_from _ _ w.0 (list_all_push l x w.1 f)

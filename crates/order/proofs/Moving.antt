@@ -1,12 +1,12 @@
 -- A granted registration, release or settling keeps what holds between calls.
-use Rattle.std.proofs.Common.{◌≡◌, ℕ, ◌≤◌, true, ◌≢◌, List, ◌∷◌, sym, refl, ap, ◌∙◌, le_of_eq, le_refl}
+use Rattle.std.proofs.Common.{◌≡◌, ℕ, ◌≤◌, true, ◌≢◌, List, ◌∷◌, sym, refl, ap, ◌∙◌, le_of_eq, le_refl, Ok}
 use mathlib.Core.Path.{subst⁻¹}
 use Rattle.tally.specs.Counts.{Counts, none}
 use Rattle.rules.specs.declared.place.Place.{Place}
 use Rattle.rules.specs.declared.place.Place.TheVariants.{Kept, Leaving, OnWay}
 use Rattle.rules.specs.declared.place.Notice.{Notice}
 use Rattle.rules.specs.declared.call.Call.TheVariants.{Register, Release, Settle}
-use Rattle.rules.specs.declared.call.Answer.TheVariants.{Registered, Released, Settled}
+use Rattle.rules.specs.declared.call.Granted.TheVariants.{Registered, Released, Settled}
 use Rattle.rules.specs.Functions.{updated, rest}
 use Rattle.rules.specs.Places.{station_of, is_kept, is_on_way}
 use Rattle.rules.specs.House.{Row, House}
@@ -33,7 +33,7 @@ moved place counts counts' carried carried' j pl up same more a q = updated_both
 
 module _ {B : Type 0} {R : ℕ → Row B} {h : History B} {s : House B} (I : Invariant R h s) where
   pub keep_register : (j n : ℕ) → is_kept (s.place j) ≡ true
-      → Invariant R ((Register j n, Registered (station_of (s.place j))) ∷ h) (register_at (station_of (s.place j)) j n s)
+      → Invariant R ((Register j n, Ok (Registered (station_of (s.place j)))) ∷ h) (register_at (station_of (s.place j)) j n s)
   unfolding register_at
   keep_register j n k = record {
     core = record {
@@ -53,7 +53,7 @@ module _ {B : Type 0} {R : ℕ → Row B} {h : History B} {s : House B} (I : Inv
   }
 
   -- the notice of handset j and station n is the oldest of station p
-  pub keep_release : (p j n : ℕ) (l : List Notice) → s.notices p ≡ notice j n ∷ l → Invariant R ((Release p, Released j n) ∷ h) (release_from p j n s)
+  pub keep_release : (p j n : ℕ) (l : List Notice) → s.notices p ≡ notice j n ∷ l → Invariant R ((Release p, Ok (Released j n)) ∷ h) (release_from p j n s)
   unfolding release_from
   keep_release p j n l in_front = record {
     core = record {
@@ -78,7 +78,7 @@ module _ {B : Type 0} {R : ℕ → Row B} {h : History B} {s : House B} (I : Inv
       leaving = noticed_release I.core.noticed p j n l in_front
 
   pub keep_settle : (j : ℕ) → is_on_way (s.place j) ≡ true
-      → Invariant R ((Settle j, Settled (station_of (s.place j))) ∷ h) (settle_at (station_of (s.place j)) j s)
+      → Invariant R ((Settle j, Ok (Settled (station_of (s.place j)))) ∷ h) (settle_at (station_of (s.place j)) j s)
   unfolding settle_at
   keep_settle j k = record {
     core = record {

@@ -1,5 +1,5 @@
 -- The oldest message to a handset that is not handed is ripe; so it does not stand back, and an arrive call hands it over where there is room.
-use Rattle.std.proofs.Common.{◌≡◌, ℕ, suc, ◌-◌, ◌<◌, ◌≤◌, Bool, true, cond, ltb, leb, Some, refl, ap, ◌∙◌, subst, ⊎_elim, lt_trans, arith}
+use Rattle.std.proofs.Common.{◌≡◌, ℕ, suc, ◌-◌, ◌<◌, ◌≤◌, Bool, true, cond, ltb, leb, Some, Ok, refl, ap, ◌∙◌, subst, ⊎_elim, lt_trans, arith}
 use mathlib.Core.Path.{subst⁻¹}
 use Rattle.std.proofs.lemmas.Bool.{cases_lt, both_ways, le-leb, lt-ltb, or_left, or_right, cond-true}
 use Rattle.tally.specs.declared.pair.Pair.{Pair}
@@ -7,14 +7,14 @@ use Rattle.tally.specs.Counts.{Counts}
 use Rattle.questions.proofs.Asked.{AllYes}
 use Rattle.rules.specs.declared.place.Stage.TheVariants.{Wire, Unread}
 use Rattle.rules.specs.declared.call.Call.TheVariants.{Arrive}
-use Rattle.rules.specs.declared.call.Answer.{Answer}
-use Rattle.rules.specs.declared.call.Answer.TheVariants.{Handed}
+use Rattle.rules.specs.declared.call.Arrived.TheVariants.{Handed}
+use Rattle.rules.specs.declared.call.Granted.TheVariants.{Arrived}
 use Rattle.rules.specs.Functions.{times}
 use Rattle.rules.specs.Places.{holds, heading, is_wire, is_unread, is_handed}
 use Rattle.rules.specs.House.{Row, House}
 use Rattle.rules.specs.Sound.{book}
 use Rattle.rules.specs.Asking.{beside, ripe, ripe_in, own_questions}
-use Rattle.rules.specs.Steps.{hand, grant, decided}
+use Rattle.rules.specs.Steps.{Answer, hand, grant, decided}
 use Rattle.rules.specs.Runs.{History}
 use Rattle.rules.specs.Order.{SentTo, HandedOver, OldestGoes}
 use Rattle.order.proofs.Basics.{zero_since, all_below_from}
@@ -62,7 +62,7 @@ module _ {B : Type 0} {h : History B} {s : House B} (I : Invariant s.rows h s) w
       not_back = zero_since _ (λ p. both_ways _ (I.quiet.none_ripe j m p) rp)
 
       Goes : Answer B × House B → Type 0
-      Goes r = ((n : ℕ) × (r.0 ≡ Handed (suc n))) × (is_unread (r.1.stage m) ≡ true)
+      Goes r = ((n : ℕ) × (r.0 ≡ Ok (Arrived (Handed (suc n))))) × (is_unread (r.1.stage m) ≡ true)
 
       goes : (p : ℕ) → s.stage m ≡ Wire p → holds p (s.place j) ≡ true → book s j < s.sizes.places → HandedOver fits s m
       goes p at held room =

@@ -1,10 +1,10 @@
 -- A granted reading keeps what holds between calls.
-use Rattle.std.proofs.Common.{◌≡◌, ℕ, suc, ◌+◌, ◌<◌, ◌≤◌, true, false, eqb, List, ◌∷◌, length, Some, sym, refl, ap, ◌∙◌, subst, ⊎_elim, le_trans, lt_trans, ne_of_lt, arith}
+use Rattle.std.proofs.Common.{◌≡◌, ℕ, suc, ◌+◌, ◌<◌, ◌≤◌, true, false, eqb, List, ◌∷◌, length, Some, Ok, sym, refl, ap, ◌∙◌, subst, ⊎_elim, le_trans, lt_trans, ne_of_lt, arith}
 use mathlib.Core.Path.{subst⁻¹}
 use Rattle.tally.specs.Counts.{Counts, larger}
 use Rattle.rules.specs.declared.place.Stage.TheVariants.{Read}
 use Rattle.rules.specs.declared.call.Call.TheVariants.{ReadNext}
-use Rattle.rules.specs.declared.call.Answer.TheVariants.{Got}
+use Rattle.rules.specs.declared.call.Granted.TheVariants.{Got}
 use Rattle.rules.specs.Functions.{updated, bit, times, rest}
 use Rattle.rules.specs.Places.{station_of, is_kept, is_wire, is_back, is_unread, is_read, is_handed}
 use Rattle.rules.specs.House.{Row, House}
@@ -26,7 +26,7 @@ module _ {B : Type 0} where
   -- the message x, at the front of its addressee's unread list, is read
   pub keep_read : {R : ℕ → Row B} {h : History B} {s : House B} (x : ℕ) (l : List ℕ) (b : B) → Invariant R h s → is_kept (s.place (R x).addressee) ≡ true
       → s.unread (R x).addressee ≡ x ∷ l → (R x).body ≡ Some b
-      → Invariant R ((ReadNext (R x).addressee, Got x b) ∷ h) (read_at (station_of (s.place (R x).addressee)) (R x).addressee x (R x) s)
+      → Invariant R ((ReadNext (R x).addressee, Ok (Got x b)) ∷ h) (read_at (station_of (s.place (R x).addressee)) (R x).addressee x (R x) s)
   unfolding read_at times
   keep_read {R} {s = s} x l b I k in_front body = record {
     core = record {

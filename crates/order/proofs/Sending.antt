@@ -1,11 +1,11 @@
 -- A granted send keeps what holds between calls.
-use Rattle.std.proofs.Common.{◌≡◌, ℕ, suc, ◌<◌, Bool, true, ◌∷◌, Some, sym, refl, ap, ◌∙◌, subst, ⊎_elim, ne_of_lt}
+use Rattle.std.proofs.Common.{◌≡◌, ℕ, suc, ◌<◌, Bool, true, ◌∷◌, Some, Ok, sym, refl, ap, ◌∙◌, subst, ⊎_elim, ne_of_lt}
 use mathlib.Core.Path.{subst⁻¹}
 use Rattle.tally.specs.Counts.{Counts}
 use Rattle.rules.specs.declared.place.Stage.{Stage}
 use Rattle.rules.specs.declared.place.Stage.TheVariants.{Wire}
 use Rattle.rules.specs.declared.call.Call.TheVariants.{Send}
-use Rattle.rules.specs.declared.call.Answer.TheVariants.{Named}
+use Rattle.rules.specs.declared.call.Granted.TheVariants.{Named}
 use Rattle.rules.specs.Functions.{updated}
 use Rattle.rules.specs.Places.{station_of, is_kept, is_wire, is_back, is_unread, is_read, is_handed}
 use Rattle.rules.specs.House.{Row, House}
@@ -41,7 +41,7 @@ module _ {B : Type 0} where
     body_is : r.body ≡ Some b
 
   sending : {R : ℕ → Row B} {h : History B} {s : House B} (b : B) → Invariant R h s → Sendable s b (R s.used)
-      → Invariant R ((Send (R s.used).sender (R s.used).addressee b, Named s.used) ∷ h) (after s (R s.used))
+      → Invariant R ((Send (R s.used).sender (R s.used).addressee b, Ok (Named s.used)) ∷ h) (after s (R s.used))
   sending {R} {s = s} b I new = record {
     core = record {
       rows_are = λ m h. updated_both (λ r. r ≡ R m) s.rows u (R u) m (λ e. ap R (sym e))
@@ -82,7 +82,7 @@ module _ {B : Type 0} where
 
   pub keep_send : {R : ℕ → Row B} {h : History B} {s : House B} (a j : ℕ) (b : B) → Invariant R h s → is_kept (s.place a) ≡ true
       → station_of (s.place a) < s.sizes.stations → R s.used ≡ new_row s (station_of (s.place a)) a j b
-      → Invariant R ((Send a j b, Named s.used) ∷ h) (send_from (station_of (s.place a)) a j b s)
+      → Invariant R ((Send a j b, Ok (Named s.used)) ∷ h) (send_from (station_of (s.place a)) a j b s)
   unfolding send_from
-  keep_send {R} {h} {s} a j b I k in_house new = subst (λ (r : Row B). Invariant R ((Send r.sender r.addressee b, Named s.used) ∷ h) (after s r)) new
+  keep_send {R} {h} {s} a j b I k in_house new = subst (λ (r : Row B). Invariant R ((Send r.sender r.addressee b, Ok (Named s.used)) ∷ h) (after s r)) new
       (sending b I (subst⁻¹ (Sendable s b) new (record { kept = k; station_is = refl; in_house = in_house; tagged = refl; body_is = refl })))

@@ -8,7 +8,7 @@ use Rattle.rules.specs.Sound.{on, name_in, passed_in, row_sound, handset_sound, 
 use Rattle.rules.specs.Asking.{pair_of}
 use Rattle.rules.specs.Runs.{History}
 use Rattle.order.proofs.Basics.{all_below_from}
-use Rattle.order.proofs.Lists.{all_in_from}
+use Rattle.order.proofs.Lists.{list_all_from}
 use Rattle.order.proofs.Counting.{Counted}
 use Rattle.order.proofs.Totals.{few_notices}
 use Rattle.order.proofs.Core.{Core, unread_is, back_is}
@@ -59,9 +59,9 @@ module _ {B : Type 0} where
       handset j l = and_from _ _
           (and_from _ _
           (and_from _ _ (and_from _ _ (N.places_in j l) (le-leb _ _ (I.quiet.in_book j)))
-          (all_in_from (name_in s.used j (λ m. (s.rows m).addressee)) (s.unread j)
+          (list_all_from (name_in s.used j (λ m. (s.rows m).addressee)) (s.unread j)
           (λ m z. let w = unread_is C j m z in and_from _ _ (lt-ltb m s.used w.0) (eq-eqb (s.rows m).addressee j w.1))))
-          (all_in_from (name_in s.used j (λ m. (s.rows m).addressee)) (s.back j)
+          (list_all_from (name_in s.used j (λ m. (s.rows m).addressee)) (s.back j)
           (λ m z. let w = back_is C j m z in and_from _ _ (lt-ltb m s.used w.0) (eq-eqb (s.rows m).addressee j w.1))))
           (all_below_from (λ i. leb (s.handed (on i j)) 4096) s.sizes.stations (λ i k. le-leb (s.handed (on i j)) 4096 (few i j)))
 

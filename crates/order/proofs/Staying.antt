@@ -2,23 +2,23 @@
 use Rattle.std.proofs.Common.{◌≡◌, ℕ, suc, ◌<◌, Bool, true, false, not, ltb, ◌≢◌, List, [], ◌∷◌, ◌++◌, Some, None, Option, sym, refl, ap, subst, ⊎_elim}
 use mathlib.Core.Path.{subst⁻¹}
 use Rattle.std.proofs.lemmas.Bool.{cases_Bool, and_parts, and_from, or_left, or_cases, both_ways, ltb-true, lt-ltb, eqb-false, ne_eqb, not-true}
+use Rattle.std.specs.List.{list_all}
 use Rattle.tally.specs.Counts.{Counts}
 use Rattle.rules.specs.declared.place.Place.TheVariants.{Kept, Leaving, OnWay}
 use Rattle.rules.specs.declared.place.Stage.{Stage}
 use Rattle.rules.specs.declared.place.Stage.TheVariants.{Wire, Back, Unread, Read}
 use Rattle.rules.specs.declared.place.Notice.{Notice}
 use Rattle.rules.specs.declared.call.Call.{Call}
-use Rattle.rules.specs.declared.call.Answer.{Answer}
 use Rattle.rules.specs.declared.call.Call.TheVariants.{Send, Arrive, ReadNext, Register, Release, Settle}
-use Rattle.rules.specs.Functions.{updated, all_in, front, rest, is_some, or_else}
+use Rattle.rules.specs.Functions.{updated, front, rest, is_some, or_else}
 use Rattle.rules.specs.Places.{station_of, holds, heading, is_wire}
 use Rattle.rules.specs.House.{Row, House}
 use Rattle.rules.specs.Sound.{place_in, stage_in, passed_in, notice_in}
 use Rattle.rules.specs.Asking.{refusal}
-use Rattle.rules.specs.Steps.{notice, hand, stand_back, send_on, new_row, send_from, read_at, register_at, release_from, settle_at, arrive_at, grant}
+use Rattle.rules.specs.Steps.{Answer, notice, hand, stand_back, send_on, new_row, send_from, read_at, register_at, release_from, settle_at, arrive_at, grant}
 use Rattle.rules.specs.Runs.{History}
 use Rattle.order.proofs.Basics.{updated_both, lt_next}
-use Rattle.order.proofs.Lists.{any_front, all_in_cons, all_in_push}
+use Rattle.order.proofs.Lists.{any_front, list_all_cons, list_all_push}
 use Rattle.order.proofs.Ripe.{with_books}
 use Rattle.order.proofs.Arriving.{arrive_ways, hand_wire}
 use Rattle.order.proofs.Invariant.{Invariant}
@@ -120,16 +120,16 @@ module _ {B : Type 0} where
             places_in = λ i l. updated_both (λ pl. place_in stations pl ≡ true) s.place j (Leaving p n) i
                 (λ d. and_from _ _ held o.1.0) (λ d. N.places_in i l);
             passed_on = N.passed_on;
-            notices_in = λ q. updated_both (λ l. all_in inside l ≡ true) s.notices p
+            notices_in = λ q. updated_both (λ l. list_all inside l ≡ true) s.notices p
                 (s.notices p ++ (notice j n ∷ [])) q
-                (λ d. all_in_push inside (s.notices p) (notice j n) (N.notices_in p) (and_from _ _ o.0 o.1.0))
+                (λ d. list_all_push inside (s.notices p) (notice j n) (N.notices_in p) (and_from _ _ o.0 o.1.0))
                 (λ d. N.notices_in q);
           }
       in_grant (Release p) e =
           let o = (answers fits s (Release p) e).own in
           let x : Notice = front (notice 0 0) (s.notices p) in
-          let w = all_in_cons inside x (rest (s.notices p))
-          (subst (λ l. all_in inside l ≡ true) (any_front (notice 0 0) (s.notices p) o.1.0) (N.notices_in p)) in
+          let w = list_all_cons inside x (rest (s.notices p))
+          (subst (λ l. list_all inside l ≡ true) (any_front (notice 0 0) (s.notices p) o.1.0) (N.notices_in p)) in
           let to = (and_parts (ltb x.handset handsets) (ltb x.station stations) w.0).1 in
           record {
             shape_right = N.shape_right;
@@ -142,7 +142,7 @@ module _ {B : Type 0} where
                 (updated (s.passed p) x.handset (Some x.station)) q
                 (λ d. updated_both (λ t. passed_in stations t ≡ true) (s.passed p) x.handset (Some x.station) i (λ _. to) (λ _. N.passed_on p i))
                 (λ d. N.passed_on q i);
-            notices_in = λ q. updated_both (λ l. all_in inside l ≡ true) s.notices p (rest (s.notices p)) q
+            notices_in = λ q. updated_both (λ l. list_all inside l ≡ true) s.notices p (rest (s.notices p)) q
                 (λ d. w.1) (λ d. N.notices_in q);
           }
       in_grant (Settle j) e =

@@ -1,12 +1,13 @@
 -- What a history tells of the tables, and of itself: what was sent, what was read and what was taken in. Each call adds an entry to the
 -- history, and keeps all of it.
-use Rattle.std.proofs.Common.{◌≡◌, ℕ, suc, ◌<◌, Bool, true, false, ◌≢◌, ◌∷◌, Some, sym, refl, ap, ◌∙◌, subst, inl, inr, ⊎_elim, arith}
+use Rattle.std.proofs.Common.{◌≡◌, ℕ, suc, ◌<◌, Bool, true, false, ◌≢◌, ◌∷◌, Some, Ok, Err, sym, refl, ap, ◌∙◌, subst, inl, inr, ⊎_elim, arith}
 use mathlib.Core.Path.{subst⁻¹}
 use Rattle.std.proofs.lemmas.Bool.{cases_eq, both_ways}
 use Rattle.rules.specs.declared.call.Call.TheVariants.{Send, Arrive, ReadNext}
-use Rattle.rules.specs.declared.call.Answer.{Answer}
-use Rattle.rules.specs.declared.call.Answer.TheVariants.{Denied, Named, Handed, SentOn, Got, Registered, Released, Settled}
+use Rattle.rules.specs.declared.call.Arrived.TheVariants.{Handed, SentOn}
+use Rattle.rules.specs.declared.call.Granted.TheVariants.{Named, Arrived, Got, Registered, Released, Settled}
 use Rattle.rules.specs.House.{Row}
+use Rattle.rules.specs.Steps.{Answer}
 use Rattle.rules.specs.Runs.{Made, History, At}
 use Rattle.rules.specs.Order.{Reads, Sent, Read, TakenIn, ReadBy, Link}
 use Rattle.order.proofs.Basics.{lt_next, AtMost}
@@ -20,14 +21,14 @@ module _ {B : Type 0} where
 
   -- what an answer tells: 1 that a message was sent, 2 that one was read, 3 that one was taken in, and 0 none of that
   abbrev pub kind : Answer B → ℕ
-  kind (Denied e) = 0
-  kind (Named m) = 1
-  kind (Handed n) = 3
-  kind (SentOn s) = 0
-  kind (Got m b) = 2
-  kind (Registered s) = 0
-  kind (Released j s) = 0
-  kind (Settled s) = 0
+  kind (Ok (Named m)) = 1
+  kind (Ok (Arrived (Handed n))) = 3
+  kind (Ok (Arrived (SentOn s))) = 0
+  kind (Ok (Got m b)) = 2
+  kind (Ok (Registered s)) = 0
+  kind (Ok (Released j s)) = 0
+  kind (Ok (Settled s)) = 0
+  kind (Err e) = 0
 
   kind_of : {x y : Made B} → x ≡ y → kind x.1 ≡ kind y.1
   kind_of p = ap (λ (x : Made B). kind x.1) p
@@ -80,7 +81,7 @@ module _ {B : Type 0} where
 
     -- the message u is sent, and all that its sender had sent or read stands under it
     sents_send : {is : ℕ → Bool} (b : B) → (R u).body ≡ Some b → Readings R u is h → ((m : ℕ) → m < u → Had R is m (R u).sender → Under R m u)
-        → Sents R (suc u) ((Send (R u).sender (R u).addressee b, Named u) ∷ h)
+        → Sents R (suc u) ((Send (R u).sender (R u).addressee b, Ok (Named u)) ∷ h)
     sents_send b body E under = record {
       sent_in = λ a j c m s. ⊎_elim
           (λ p. let e = halves p.0 in let eq : u ≡ m = cc in (omega arith, cc, cc, cc))
@@ -122,7 +123,7 @@ module _ {B : Type 0} where
 
     -- the addressee of x reads it, having read all messages to it that stand under x
     readings_read : {is' : ℕ → Bool} (x : ℕ) (b : B) → x < u → (R x).body ≡ Some b → is x ≡ false → is' x ≡ true → ((m : ℕ) → m ≢ x → is' m ≡ is m)
-        → ((m : ℕ) → Under R m x → (R m).addressee ≡ (R x).addressee → is m ≡ true) → Readings R u is' ((ReadNext (R x).addressee, Got x b) ∷ h)
+        → ((m : ℕ) → Under R m x → (R m).addressee ≡ (R x).addressee → is m ≡ true) → Readings R u is' ((ReadNext (R x).addressee, Ok (Got x b)) ∷ h)
     readings_read {is'} x b hx body was now kept under = record {
       read_in = λ j c m s. ⊎_elim
           (λ p. let e = halves p.0 in let eq : x ≡ m = cc in (subst (λ y. y < u) eq hx, ap is' (sym eq) ∙ now, cc, cc))
@@ -163,7 +164,7 @@ module _ {B : Type 0} where
     }
 
     -- the message x is taken in
-    takings_take : {is' : ℕ → Bool} (x n : ℕ) → x < u → is' x ≡ false → ((m : ℕ) → m ≢ x → is' m ≡ is m) → Takings u is' ((Arrive x, Handed n) ∷ h)
+    takings_take : {is' : ℕ → Bool} (x n : ℕ) → x < u → is' x ≡ false → ((m : ℕ) → m ≢ x → is' m ≡ is m) → Takings u is' ((Arrive x, Ok (Arrived (Handed n))) ∷ h)
     takings_take {is'} x n hx now kept = record {
       taken_in = λ m s. ⊎_elim
           (λ p. let e = halves p.0.1 in let eq : x ≡ m = cc in (subst (λ y. y < u) eq hx, ap is' (sym eq) ∙ now))
@@ -184,7 +185,7 @@ module _ {B : Type 0} where
 
     pub told_send : {rd' wr' : ℕ → Bool} (b : B) → (R u).body ≡ Some b → ((m : ℕ) → m < u → Had R rd m (R u).sender → Under R m u)
         → ((m : ℕ) → m < u → rd' m ≡ rd m) → rd' u ≡ false → ((m : ℕ) → m < u → wr' m ≡ wr m) → wr' u ≡ true
-        → Told R (suc u) rd' wr' ((Send (R u).sender (R u).addressee b, Named u) ∷ h)
+        → Told R (suc u) rd' wr' ((Send (R u).sender (R u).addressee b, Ok (Named u)) ∷ h)
     told_send b body under er ru ew wu = record {
       sents = sents_send D.sents b body D.readings under;
       readings = readings_wide (readings_skip D.readings _ (omega arith)) er ru;
@@ -193,7 +194,7 @@ module _ {B : Type 0} where
 
     pub told_read : {rd' wr' : ℕ → Bool} (x : ℕ) (b : B) → x < u → (R x).body ≡ Some b → rd x ≡ false → rd' x ≡ true → ((m : ℕ) → m ≢ x → rd' m ≡ rd m)
         → ((m : ℕ) → m < u → wr' m ≡ wr m) → ((m : ℕ) → Under R m x → (R m).addressee ≡ (R x).addressee → rd m ≡ true)
-        → Told R u rd' wr' ((ReadNext (R x).addressee, Got x b) ∷ h)
+        → Told R u rd' wr' ((ReadNext (R x).addressee, Ok (Got x b)) ∷ h)
     told_read x b hx body was now er ew under = record {
       sents = sents_skip D.sents _ (omega arith);
       readings = readings_read D.readings x b hx body was now er under;
@@ -201,7 +202,7 @@ module _ {B : Type 0} where
     }
 
     pub told_take : {rd' wr' : ℕ → Bool} (x n : ℕ) → x < u → wr' x ≡ false → ((m : ℕ) → m < u → rd' m ≡ rd m) → ((m : ℕ) → m ≢ x → wr' m ≡ wr m)
-        → Told R u rd' wr' ((Arrive x, Handed n) ∷ h)
+        → Told R u rd' wr' ((Arrive x, Ok (Arrived (Handed n))) ∷ h)
     told_take x n hx now er ew = record {
       sents = sents_skip D.sents _ (omega arith);
       readings = readings_same (readings_skip D.readings _ (omega arith)) er;

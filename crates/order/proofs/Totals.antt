@@ -1,13 +1,14 @@
 -- Sums over numbers below a given one, and by them: a station has no more notices than handsets are leaving it.
 use Rattle.std.proofs.Common.{◌≡◌, ℕ, zero, suc, ◌+◌, ◌<◌, ◌≤◌, Bool, true, eqb, ltb, List, [], ◌∷◌, length, sym, refl, ⊎_elim, not-suc-le-zero, ne_of_lt, arith}
 use Rattle.std.proofs.lemmas.Bool.{and_parts, ltb-true}
+use Rattle.std.specs.List.{list_all}
 use Rattle.rules.specs.declared.place.Place.{Place}
 use Rattle.rules.specs.declared.place.Notice.{Notice}
-use Rattle.rules.specs.Functions.{bit, all_in, how_many}
+use Rattle.rules.specs.Functions.{bit, how_many}
 use Rattle.rules.specs.Places.{leaves}
 use Rattle.rules.specs.Sound.{notice_in}
 use Rattle.order.proofs.Basics.{lt_next}
-use Rattle.order.proofs.Lists.{bit_same, bit_other, all_in_cons}
+use Rattle.order.proofs.Lists.{bit_same, bit_other, list_all_cons}
 use Rattle.order.proofs.Noticed.{seen, Noticed}
 
 -- f 0 + f 1 + .. up to the number before n
@@ -48,16 +49,16 @@ how_many_total p zero = refl
 how_many_total p (suc n) = omega (arith, how_many_total p n)
 
 -- the notices of a list, counted by handset
-seen_total : (handsets stations : ℕ) (l : List Notice) → all_in (notice_in handsets stations) l ≡ true → length l ≡ total (λ j. seen j l) handsets
+seen_total : (handsets stations : ℕ) (l : List Notice) → list_all (notice_in handsets stations) l ≡ true → length l ≡ total (λ j. seen j l) handsets
 seen_total handsets stations [] e = sym (total_zero handsets)
 seen_total handsets stations (x ∷ l) e =
-    let w = all_in_cons (notice_in handsets stations) x l e in
+    let w = list_all_cons (notice_in handsets stations) x l e in
     let low = ltb-true x.handset handsets (and_parts (ltb x.handset handsets) (ltb x.station stations) w.0).0 in
     let both = total_plus (λ j. bit (eqb j x.handset)) (λ j. seen j l) handsets in
     omega (arith, seen_total handsets stations l w.1, total_one x.handset handsets low)
 
 pub few_notices : {place : ℕ → Place} {notices : ℕ → List Notice} → Noticed place notices → (handsets stations p : ℕ)
-    → all_in (notice_in handsets stations) (notices p) ≡ true → length (notices p) ≤ how_many (λ j. leaves p (place j)) handsets
+    → list_all (notice_in handsets stations) (notices p) ≡ true → length (notices p) ≤ how_many (λ j. leaves p (place j)) handsets
 few_notices {place} {notices} N handsets stations p e = omega (
   arith,
   seen_total handsets stations (notices p) e,

@@ -4,7 +4,6 @@
 --   bit        1 for yes and 0 for no
 --   all_below  a test holds of every number below a given one
 --   how_many   of how many numbers below a given one it holds
---   all_in     it holds of everything in a list
 --   times      how often a name stands in a list
 --   first      the first name in a list that passes a test
 --   without    a list without the first place at which a name stands in it
@@ -31,10 +30,6 @@ all_below p (suc n) = all_below p n && p n
 unfoldable pub how_many : (ℕ → Bool) → ℕ → ℕ
 how_many p zero = 0
 how_many p (suc n) = how_many p n + bit (p n)
-
-unfoldable pub all_in : {A : Type 0} → (A → Bool) → List A → Bool
-all_in p [] = true
-all_in p (x ∷ l) = p x && all_in p l
 
 unfoldable pub times : ℕ → List ℕ → ℕ
 times m [] = 0

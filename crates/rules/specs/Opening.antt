@@ -8,17 +8,19 @@
 --                    the roll's rows stay
 --   opening          the refusal of an opening, or none, and the house that it leaves
 use Rattle.std.specs.Prelude.{ℕ, Bool, not, ◌&&◌, ◌||◌, List, [], ◌∷◌, length, None, Option, ◌==◌, nat_lt, slice_index}
+use Rattle.std.specs.List.{list_all}
 use Rattle.tally.specs.Counts.{none}
 use Rattle.questions.specs.Asking.{first_no, or_next}
+use Rattle.rules.specs.declared.numbers.Numbers.{Numbers}
 use Rattle.rules.specs.declared.place.Place.TheVariants.{Kept}
 use Rattle.rules.specs.declared.fault.HouseFault.{HouseFault}
 use Rattle.rules.specs.declared.fault.HouseFault.TheVariants.{StartList}
-use Rattle.rules.specs.Functions.{all_in, any, by_option}
+use Rattle.rules.specs.Functions.{any, by_option}
 use Rattle.rules.specs.House.{Sizes, House}
 use Rattle.rules.specs.Asking.{shape_questions}
 
 abbrev pub start_right : Sizes → List ℕ → Bool
-start_right z l = not (any l) || (length l == z.handsets && all_in (λ p. nat_lt p z.stations) l)
+start_right z l = not (any l) || (length l == z.handsets && list_all (λ p. nat_lt p z.stations) l)
 
 abbrev pub start_station : List ℕ → ℕ → ℕ
 start_station l j = slice_index l j
@@ -27,9 +29,9 @@ abbrev pub opening_refusal : Sizes → List ℕ → Option HouseFault
 opening_refusal z l = or_next (first_no (shape_questions z)) (first_no ((StartList, start_right z l) ∷ []))
 
 module _ {B : Type 0} where
-  abbrev pub asked_sizes : House B → ℕ → ℕ → ℕ → ℕ → Sizes
-  asked_sizes s stations handsets rows places =
-      record { stations = stations; handsets = handsets; rows = rows; places = places; lengths = s.sizes.lengths }
+  abbrev pub asked_sizes : House B → Numbers → Sizes
+  asked_sizes s n =
+      record { stations = n.stations; handsets = n.handsets; rows = n.rows; places = n.places; lengths = s.sizes.lengths }
 
   abbrev pub opened : Sizes → List ℕ → House B → House B
   opened z l s = record {

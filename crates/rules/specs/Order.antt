@@ -19,11 +19,12 @@
 --   OldestGoes      the oldest message that is not handed does not stand back; if it heads for the station that holds its
 --                    addressee, an arrive call hands it over unless the book is full
 --   FullHasUnread   a full book has something unread
-use Rattle.std.specs.Prelude.{◌≡◌, ℕ, suc, ◌+◌, ◌<◌, ◌≤◌, Bool, true, false, ◌≢◌, ◌⊎◌, ◌↔◌, length, Some}
+use Rattle.std.specs.Prelude.{◌≡◌, ℕ, suc, ◌+◌, ◌<◌, ◌≤◌, Bool, true, false, ◌≢◌, ◌⊎◌, ◌↔◌, length, Some, Ok}
 use Rattle.tally.specs.Counts.{Counts}
 use Rattle.rules.specs.declared.place.Stage.TheVariants.{Wire}
 use Rattle.rules.specs.declared.call.Call.TheVariants.{Send, Arrive, ReadNext}
-use Rattle.rules.specs.declared.call.Answer.TheVariants.{Named, Handed, Got}
+use Rattle.rules.specs.declared.call.Arrived.TheVariants.{Handed}
+use Rattle.rules.specs.declared.call.Granted.TheVariants.{Named, Arrived, Got}
 use Rattle.rules.specs.Functions.{times}
 use Rattle.rules.specs.Places.{holds, is_wire, is_back, is_unread, is_read, is_handed}
 use Rattle.rules.specs.House.{House}
@@ -33,13 +34,13 @@ use Rattle.rules.specs.Runs.{Made, History, At}
 
 module _ {B : Type 0} where
   abbrev pub Sends : ℕ → ℕ → B → ℕ → Made B → Type 0
-  Sends a j b m x = x ≡ (Send a j b, Named m)
+  Sends a j b m x = x ≡ (Send a j b, Ok (Named m))
 
   abbrev pub Reads : ℕ → B → ℕ → Made B → Type 0
-  Reads j b m x = x ≡ (ReadNext j, Got m b)
+  Reads j b m x = x ≡ (ReadNext j, Ok (Got m b))
 
   abbrev pub TakesIn : ℕ → Made B → Type 0
-  TakesIn m x = (n : ℕ) × (x ≡ (Arrive m, Handed n))
+  TakesIn m x = (n : ℕ) × (x ≡ (Arrive m, Ok (Arrived (Handed n))))
 
   abbrev pub Sent : History B → ℕ → ℕ → B → ℕ → Type 0
   Sent h a j b m = (h₀ : History B) × At h (Sends a j b m) h₀
@@ -103,7 +104,7 @@ module _ {B : Type 0} where
   module _ (fits : Counts → Bool) where
     -- an arrive call for m hands it over, with what that makes ripe
     abbrev pub HandedOver : House B → ℕ → Type 0
-    HandedOver s m = ((n : ℕ) × ((step fits s (Arrive m)).0 ≡ Handed (suc n))) × (is_unread ((step fits s (Arrive m)).1.stage m) ≡ true)
+    HandedOver s m = ((n : ℕ) × ((step fits s (Arrive m)).0 ≡ Ok (Arrived (Handed (suc n))))) × (is_unread ((step fits s (Arrive m)).1.stage m) ≡ true)
 
     abbrev pub OldestGoes : History B → House B → Type 0
     OldestGoes h s =

@@ -9,9 +9,8 @@
 use Rattle.std.specs.Prelude.{◌≡◌, Bool, ◌⊎◌, List, [], ◌∷◌}
 use Rattle.tally.specs.Counts.{Counts}
 use Rattle.rules.specs.declared.call.Call.{Call}
-use Rattle.rules.specs.declared.call.Answer.{Answer}
 use Rattle.rules.specs.House.{House}
-use Rattle.rules.specs.Steps.{step}
+use Rattle.rules.specs.Steps.{Answer, step}
 
 abbrev pub Made : Type 0 → Type 0
 Made B = Call B × Answer B

@@ -10,12 +10,13 @@
 --                  the house, and its notices name handsets and stations of the house
 --   sound          there are at most as many rows in use as rows, and all of that holds
 use Rattle.std.specs.Prelude.{ℕ, ◌+◌, Bool, not, ◌&&◌, ◌||◌, List, length, Option, ◌==◌, nat_le, nat_lt}
+use Rattle.std.specs.List.{list_all}
 use Rattle.tally.specs.declared.pair.Pair.{Pair}
 use Rattle.rules.specs.declared.place.Place.{Place}
 use Rattle.rules.specs.declared.place.Place.TheVariants.{Kept, Leaving, OnWay}
 use Rattle.rules.specs.declared.place.Stage.{Stage}
 use Rattle.rules.specs.declared.place.Notice.{Notice}
-use Rattle.rules.specs.Functions.{all_below, all_in, how_many, is_some, or_else}
+use Rattle.rules.specs.Functions.{all_below, how_many, is_some, or_else}
 use Rattle.rules.specs.Places.{heading, is_wire, leaves}
 use Rattle.rules.specs.House.{House}
 
@@ -51,7 +52,7 @@ module _ {B : Type 0} where
       && not ((s.rows m).addressee == (s.rows m).sender) && stage_in s.sizes.stations (s.stage m)
 
   abbrev pub names_sound : House B → ℕ → List ℕ → Bool
-  names_sound s j l = all_in (name_in s.used j (λ m. (s.rows m).addressee)) l
+  names_sound s j l = list_all (name_in s.used j (λ m. (s.rows m).addressee)) l
 
   abbrev pub handset_sound : House B → ℕ → Bool
   handset_sound s j =
@@ -63,7 +64,7 @@ module _ {B : Type 0} where
   station_sound s p =
       nat_le (length (s.notices p)) (how_many (λ j. leaves p (s.place j)) s.sizes.handsets)
       && all_below (λ j. passed_in s.sizes.stations (s.passed p j)) s.sizes.handsets
-      && all_in (notice_in s.sizes.handsets s.sizes.stations) (s.notices p)
+      && list_all (notice_in s.sizes.handsets s.sizes.stations) (s.notices p)
 
   unfoldable pub sound : House B → Bool
   sound s =

@@ -1,5 +1,6 @@
 -- What a call answers and what it leaves.
 --
+--   Answer        what a house answers to a call: what a granted call tells, or why it is denied
 --   hand          a message is handed: it goes to the end of its addressee's unread list, and one more is handed from its
 --                 sending station; the back list is given
 --   hand_ripe     the first ripe message of a back list is handed, and so on until none is ripe; how many, and the house
@@ -8,7 +9,7 @@
 --   send_from, read_at, register_at, release_from, settle_at   what a granted call leaves
 --   grant         the answer of a granted call, and the house that it leaves
 --   step          the answer of any call, and the house that it leaves: a denied call leaves the house as it was
-use Rattle.std.specs.Prelude.{ℕ, zero, suc, Bool, cond, List, [], ◌∷◌, ◌++◌, length, Some, None, Option}
+use Rattle.std.specs.Prelude.{ℕ, zero, suc, Bool, cond, List, [], ◌∷◌, ◌++◌, length, Some, None, Option, Ok, Err, Result}
 use Rattle.tally.specs.Counts.{Counts, none, raised}
 use Rattle.rules.specs.declared.place.Place.TheVariants.{Kept, Leaving, OnWay}
 use Rattle.rules.specs.declared.place.Stage.TheVariants.{Wire, Back, Unread, Read}
@@ -17,8 +18,9 @@ use Rattle.rules.specs.declared.fault.HouseFault.{HouseFault}
 use Rattle.rules.specs.declared.fault.HouseFault.TheVariants.{Tables}
 use Rattle.rules.specs.declared.call.Call.{Call}
 use Rattle.rules.specs.declared.call.Call.TheVariants.{Send, Arrive, ReadNext, Register, Release, Settle}
-use Rattle.rules.specs.declared.call.Answer.{Answer}
-use Rattle.rules.specs.declared.call.Answer.TheVariants.{Denied, Named, Handed, SentOn, Got, Registered, Released, Settled}
+use Rattle.rules.specs.declared.call.Arrived.TheVariants.{Handed, SentOn}
+use Rattle.rules.specs.declared.call.Granted.{Granted}
+use Rattle.rules.specs.declared.call.Granted.TheVariants.{Named, Arrived, Got, Registered, Released, Settled}
 use Rattle.rules.specs.Functions.{updated, first, without, front, rest, or_else, by_option}
 use Rattle.rules.specs.Places.{station_of, holds, heading}
 use Rattle.rules.specs.House.{Row, House}
@@ -28,6 +30,9 @@ use Rattle.rules.specs.Asking.{ripe, ripe_in, pair_of, after_send, after_read, a
 -- a notice of a handset that goes to a station
 abbrev pub notice : ℕ → ℕ → Notice
 notice j n = record { handset = j; station = n }
+
+abbrev pub Answer : Type 0 → Type 0
+Answer B = Result (Granted B) HouseFault
 
 module _ {B : Type 0} where
   -- the message x, whose row is r; its addressee's back list is then l
@@ -92,8 +97,8 @@ module _ {B : Type 0} where
 
   -- the answer of a reading: a message in use has a body
   abbrev pub got : ℕ → Option B → Answer B
-  got x (Some b) = Got x b
-  got x None = Denied Tables
+  got x (Some b) = Ok (Got x b)
+  got x None = Err Tables
 
   -- the message x, whose row is r, is handed, and then what that makes ripe
   abbrev pub hand_all : Row B → ℕ → House B → ℕ × House B
@@ -104,27 +109,27 @@ module _ {B : Type 0} where
   arrive_at p r x s =
       cond (holds p (s.place r.addressee))
       (cond (ripe s.sizes.stations s.handed r)
-      (Handed (hand_all r x s).0, (hand_all r x s).1)
-      (Handed 0, stand_back r x s))
-      (SentOn (or_else 0 (s.passed p r.addressee)), send_on (or_else 0 (s.passed p r.addressee)) x s)
+      (Ok (Arrived (Handed (hand_all r x s).0)), (hand_all r x s).1)
+      (Ok (Arrived (Handed 0)), stand_back r x s))
+      (Ok (Arrived (SentOn (or_else 0 (s.passed p r.addressee)))), send_on (or_else 0 (s.passed p r.addressee)) x s)
 
   abbrev pub grant : House B → Call B → Answer B × House B
-  grant s (Send a j b) = (Named s.used, send_from (station_of (s.place a)) a j b s)
+  grant s (Send a j b) = (Ok (Named s.used), send_from (station_of (s.place a)) a j b s)
   grant s (Arrive m) = arrive_at (heading (s.stage m)) (s.rows m) m s
   grant s (ReadNext j) = (
     got (front 0 (s.unread j)) (s.rows (front 0 (s.unread j))).body,
     read_at (station_of (s.place j)) j (front 0 (s.unread j)) (s.rows (front 0 (s.unread j))) s,
   )
-  grant s (Register j n) = (Registered (station_of (s.place j)), register_at (station_of (s.place j)) j n s)
+  grant s (Register j n) = (Ok (Registered (station_of (s.place j))), register_at (station_of (s.place j)) j n s)
   grant s (Release p) = (
-    Released (front (notice 0 0) (s.notices p)).handset (front (notice 0 0) (s.notices p)).station,
+    Ok (Released (front (notice 0 0) (s.notices p)).handset (front (notice 0 0) (s.notices p)).station),
     release_from p (front (notice 0 0) (s.notices p)).handset (front (notice 0 0) (s.notices p)).station s,
   )
-  grant s (Settle j) = (Settled (station_of (s.place j)), settle_at (station_of (s.place j)) j s)
+  grant s (Settle j) = (Ok (Settled (station_of (s.place j))), settle_at (station_of (s.place j)) j s)
 
   -- a refusal leaves the house as it was; without one the call is granted
   abbrev pub decided : Option HouseFault → House B → Answer B × House B → Answer B × House B
-  decided (Some e) s granted = (Denied e, s)
+  decided (Some e) s granted = (Err e, s)
   decided None s granted = granted
 
   module _ (fits : Counts → Bool) where

@@ -32,26 +32,6 @@ pub enum Call<B> {
     },
 }
 
-// What a house answers to a call.
-#[derive(Clone, Copy)]
-pub enum Answer<B> {
-    Denied(HouseFault),
-    // to a send: the message's name
-    Named(u16),
-    // to an arrival: how many messages were handed
-    Handed(u16),
-    // to an arrival: the station to which the message is sent on
-    SentOn(u8),
-    // to a reading: the message's name and its body
-    Got { name: u16, body: B },
-    // to a registration: the station that the handset leaves
-    Registered(u8),
-    // to a release: the handset, and the station for which it leaves
-    Released { handset: u8, station: u8 },
-    // to a settling: the station that keeps the handset now
-    Settled(u8),
-}
-
 // What an arrival does to its message.
 #[derive(Clone, Copy)]
 pub enum Arrived {
@@ -60,3 +40,23 @@ pub enum Arrived {
     // it is sent on to a station
     SentOn(u8),
 }
+
+// What a granted call tells.
+#[derive(Clone, Copy)]
+pub enum Granted<B> {
+    // a send: the message's name
+    Named(u16),
+    // an arrival: what it did to the message
+    Arrived(Arrived),
+    // a reading: the message's name and its body
+    Got { name: u16, body: B },
+    // a registration: the station that the handset leaves
+    Registered(u8),
+    // a release: the handset, and the station for which it leaves
+    Released { handset: u8, station: u8 },
+    // a settling: the station that keeps the handset now
+    Settled(u8),
+}
+
+// What a house answers to a call.
+pub type Answer<B> = Result<Granted<B>, HouseFault>;

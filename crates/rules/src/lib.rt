@@ -13,10 +13,12 @@ use tally::Pair;
 
 mod call;
 mod fault;
+mod numbers;
 mod place;
 
-pub use call::{Answer, Arrived, Call};
+pub use call::{Answer, Arrived, Call, Granted};
 pub use fault::HouseFault;
+pub use numbers::Numbers;
 pub use place::{Notice, Place, Stage};
 
 impl From<StationFault> for HouseFault {

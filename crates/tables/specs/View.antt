@@ -72,10 +72,10 @@ pub record Whole (T B : Type 0) : Type 0 where
 module _ {T B : Type 0} where
   abbrev pub sizes_of : Whole T B → Sizes
   sizes_of w = record {
-    stations = w.head.stations;
-    handsets = w.head.handsets;
-    rows = w.head.rows;
-    places = w.head.places;
+    stations = w.head.numbers.stations;
+    handsets = w.head.numbers.handsets;
+    rows = w.head.numbers.rows;
+    places = w.head.numbers.places;
     lengths = record {
       stations = length w.stations;
       handsets = length w.handsets;
@@ -91,13 +91,13 @@ module _ {T B : Type 0} where
     sizes = sizes_of w;
     used = w.head.used;
     counts = counts_of counts w.stations;
-    notices = held (notice 0 0) w.head.handsets (notice_lengths w.stations) w.notices;
+    notices = held (notice 0 0) w.head.numbers.handsets (notice_lengths w.stations) w.notices;
     passed = passed_of w.stations;
     place = places_of w.handsets;
     handed = handed_of w.handsets;
     carried = carried_of counts w.handsets;
-    unread = held 0 w.head.places (unread_lengths w.handsets) w.unread;
-    back = held 0 w.head.places (back_lengths w.handsets) w.back;
+    unread = held 0 w.head.numbers.places (unread_lengths w.handsets) w.unread;
+    back = held 0 w.head.numbers.places (back_lengths w.handsets) w.back;
     rows = rows_of counts w.roll;
     stage = stages_of w.roll;
   }

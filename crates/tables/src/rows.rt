@@ -1,13 +1,9 @@
-use rules::{Place, Stage};
+use rules::{Numbers, Place, Stage};
 
-// The numbers of a house.
+// What is kept of a house as a whole.
 #[derive(Clone, Copy)]
 pub struct Head {
-    pub stations: u16,
-    pub handsets: u16,
-    pub rows: u16,
-    // how many unread places a handset has, and how many back places
-    pub places: u16,
+    pub numbers: Numbers,
     // how many rows are in use
     pub used: u16,
 }

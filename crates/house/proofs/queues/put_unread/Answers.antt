@@ -10,7 +10,7 @@ use Rattle.house.proofs.queues.put_unread.Goals as goal
 pub returns : goal.returns
 returns g c =
     let w = whole c.args.tables.now in let i = c.args.handset in let counts = g.T.Tally.counts in let next = c.put_in.new in
-    let after = put_became 0 i w.head.places w.unread _ (unread_fits counts w c.requires.room.bounded i c.requires.there) c.args.name _ next.len next.places
+    let after = put_became 0 i w.head.numbers.places w.unread _ (unread_fits counts w c.requires.room.bounded i c.requires.there) c.args.name _ next.len next.places
     (column_read (λ x. x.unread) 0 w.handsets i _ c.requires.there) c.requires.room.room c.put_in.ensures.leaves c.put_in.ensures.counts in
     ap (λ rows. viewed counts (with_unread_places counts w next.places rows)) (set_modify w.handsets i (unread_as next.len) _)
     ∙ unread_view counts w i c.requires.there next.len next.places _ after.long after.is
