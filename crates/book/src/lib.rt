@@ -1,9 +1,9 @@
 // Parts of a house that look at one handset's row and its places, or at one station's.
 #![tactic(auto)]
 
-ghost use Rattle.std.specs.Prelude.{◌≡◌, ℕ, ◌+◌, if◌then◌else◌, Ok, Err, slice_index};
+ghost use Rattle.std.specs.Prelude.{◌≡◌, ℕ, ◌+◌, if◌then◌else◌, Ok, Err, position, slice_index};
 ghost use Rattle.queue.specs.declared.QueueFull.{QueueFull as Full};
-ghost use Rattle.book.specs.Ripening.{ripe_for, first_place, tag_of as tag_counts};
+ghost use Rattle.book.specs.Ripening.{ripe_for, tag_of as tag_counts};
 ghost use Rattle.book.specs.Places.{row_start, room_in, put_in, taken, take_in, left_in};
 
 use queue::{Queue, QueueFull};
@@ -25,7 +25,7 @@ pub fn first_ripe<T: Tally, B>(
     handset: u8,
     stations: u8,
 ) -> Option<usize>
-    ensures { result ≡ first_place (λ m. ripe_for stations (λ i. slice_index handed.now i) handset (tag_counts T.Tally.counts roll.now m)) 0 names.now }
+    ensures { result ≡ position (λ m. ripe_for stations (λ i. slice_index handed.now i) handset (tag_counts T.Tally.counts roll.now m)) names.now }
 {
     // the project fixes this form: the comparison of stations is left by the label at the first that falls short
     'names: for (at, name) in names.iter().enumerate() {
