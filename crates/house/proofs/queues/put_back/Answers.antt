@@ -1,16 +1,13 @@
-use Rattle.std.proofs.Common.{ap, ◌∙◌}
-use Rattle.tables.specs.View.{viewed, whole}
-use Rattle.tables.proofs.Changing.{column_read, set_modify}
-use Rattle.house.specs.Rewriting.{back_as}
+use Rattle.tables.specs.View.{whole}
+use Rattle.tables.proofs.Changing.{column_read}
 use Rattle.house.proofs.Held.{put_became}
 use Rattle.house.proofs.Queued.{back_fits}
-use Rattle.house.proofs.Views.{with_back_places, back_view}
+use Rattle.house.proofs.Views.{back_view}
 use Rattle.house.proofs.queues.put_back.Goals as goal
 
 pub returns : goal.returns
 returns g c =
     let w = whole c.args.tables.now in let i = c.args.handset in let counts = g.T.Tally.counts in let next = c.put_in.new in
-    let after = put_became 0 i w.head.numbers.places w.back _ (back_fits counts w c.requires.room.bounded i c.requires.there) c.args.name _ next.len next.places
-    (column_read (λ x. x.back) 0 w.handsets i _ c.requires.there) c.requires.room.room c.put_in.ensures.leaves c.put_in.ensures.counts in
-    ap (λ rows. viewed counts (with_back_places counts w next.places rows)) (set_modify w.handsets i (back_as next.len) _)
-    ∙ back_view counts w i c.requires.there next.len next.places _ after.long after.is
+    back_view counts w i c.requires.there _ next.len next.places _
+    (put_became 0 i w.head.numbers.places w.back _ (back_fits counts w c.requires.room.bounded i c.requires.there) c.args.name _ next.len next.places
+    (column_read (λ x. x.back) 0 w.handsets i _ c.requires.there) c.requires.room.room c.put_in.ensures.leaves c.put_in.ensures.counts)

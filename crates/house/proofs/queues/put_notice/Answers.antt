@@ -1,17 +1,14 @@
-use Rattle.std.proofs.Common.{ap, ◌∙◌}
 use Rattle.rules.specs.Steps.{notice}
-use Rattle.tables.specs.View.{viewed, whole}
-use Rattle.tables.proofs.Changing.{column_read, set_modify}
-use Rattle.house.specs.Rewriting.{noticing}
+use Rattle.tables.specs.View.{whole}
+use Rattle.tables.proofs.Changing.{column_read}
 use Rattle.house.proofs.Held.{put_became}
 use Rattle.house.proofs.Queued.{notices_fit}
-use Rattle.house.proofs.Views.{with_notice_places, notices_view}
+use Rattle.house.proofs.Views.{notices_view}
 use Rattle.house.proofs.queues.put_notice.Goals as goal
 
 pub returns : goal.returns
 returns g c =
     let w = whole c.args.tables.now in let i = c.args.station in let counts = g.T.Tally.counts in let next = c.put_in.new in
-    let after = put_became (notice 0 0) i w.head.numbers.handsets w.notices _ (notices_fit counts w c.requires.room.bounded i c.requires.there) c.args.notice _ next.len next.places
-    (column_read (λ x. x.notices) 0 w.stations i _ c.requires.there) c.requires.room.room c.put_in.ensures.leaves c.put_in.ensures.counts in
-    ap (λ rows. viewed counts (with_notice_places counts w next.places rows)) (set_modify w.stations i (noticing next.len) _)
-    ∙ notices_view counts w i c.requires.there next.len next.places _ after.long after.is
+    notices_view counts w i c.requires.there _ next.len next.places _
+    (put_became (notice 0 0) i w.head.numbers.handsets w.notices _ (notices_fit counts w c.requires.room.bounded i c.requires.there) c.args.notice _ next.len next.places
+    (column_read (λ x. x.notices) 0 w.stations i _ c.requires.there) c.requires.room.room c.put_in.ensures.leaves c.put_in.ensures.counts)

@@ -1,12 +1,6 @@
-use Rattle.std.proofs.Common.{ap, ◌∙◌}
-use Rattle.tables.specs.View.{viewed, whole}
-use Rattle.tables.proofs.Changing.{set_modify}
-use Rattle.house.specs.Rewriting.{carrying}
-use Rattle.house.proofs.Views.{with_handsets, carried_view}
+use Rattle.tables.specs.View.{whole}
+use Rattle.house.proofs.Views.{carried_view}
 use Rattle.house.proofs.writes.set_carried.Goals as goal
 
 pub returns : goal.returns
-returns g c =
-    let w = whole c.args.tables.now in
-    ap (λ rows. viewed g.T.Tally.counts (with_handsets g.T.Tally.counts w rows)) (set_modify w.handsets c.args.handset (carrying c.args.tally) _)
-    ∙ carried_view g.T.Tally.counts w c.args.handset c.requires c.args.tally
+returns g c = carried_view g.T.Tally.counts (whole c.args.tables.now) c.args.handset c.requires _ c.args.tally
