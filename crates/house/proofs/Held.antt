@@ -1,7 +1,8 @@
 -- The queues of a table of places after one row's places are written.
-use Rattle.std.proofs.Common.{◌≡◌, ℕ, zero, suc, ◌+◌, ◌-◌, ◌*◌, ◌<◌, ◌≤◌, min, true, cond, ◌&&◌, ltb, List, [], ◌∷◌, ◌++◌, length, take, drop, set, sym, refl, ap, ◌∙◌, ⊎_elim, le_refl, arith, add-one, length-set}
+use Rattle.std.proofs.Common.{◌≡◌, ℕ, suc, ◌+◌, ◌-◌, ◌*◌, ◌<◌, ◌≤◌, min, true, cond, ◌&&◌, ltb, List, [], ◌∷◌, ◌++◌, length, take, drop, set, sym, ap, ◌∙◌, ⊎_elim, le_refl, arith, add-one, length-set}
 use borrow.Rule.Slice.PartMut.{put_mid, set_mid_at}
 use Rattle.std.proofs.lemmas.List.{take_all, take-append-le, drop_at, drop-take, drop-drop, take-take, length-take-le, length-take, length-drop, length-append}
+use Rattle.std.proofs.Math.Seq.{take-suc-set}
 use Rattle.std.proofs.lemmas.Slice.{take-put_mid_below, drop-put_mid}
 use Rattle.std.proofs.lemmas.Bool.{cases_order, cond-true, lt-ltb, le-leb, and_from}
 use Rattle.rules.specs.Functions.{updated}
@@ -46,11 +47,6 @@ module _ {X : Type 0} (d : X) (row q : ℕ) (xs ys : List X) (there : row * q + 
       (ap (λ k. part d row q k (with_part row q ys xs)) (updated_same lens row n) ∙ part_here n h)
       (λ i ne. ap (λ k. part d i q k (with_part row q ys xs)) (updated_other lens row n i ne) ∙ part_elsewhere i (lens i) ne (short i))
 
-take_set : {X : Type 0} (ys : List X) (n : ℕ) (x : X) → n < length ys → take (suc n) (set ys n x) ≡ take n ys ++ (x ∷ [])
-take_set [] n x h = let b : ⊥ = omega arith in absurd b
-take_set (y ∷ ys) zero x h = refl
-take_set (y ∷ ys) (suc n) x h = ap (λ zs. y ∷ zs) (take_set ys n x (omega arith))
-
 -- a row whose places are all in the table, where no queue is longer than its row
 pub record Fits {X : Type 0} (row q : ℕ) (xs : List X) (lens : ℕ → ℕ) : Type 0 where
   pub there : row * q + q ≤ length xs
@@ -91,7 +87,7 @@ module _ {X : Type 0} (d : X) (row q : ℕ) (xs : List X) (lens : ℕ → ℕ) (
       let has : room_in row q k xs ≡ true = and_from (in_table row q xs) (ltb k q) there (lt-ltb k q lt) in
       let more : m ≡ suc k = count ∙ ap (λ i. cond (room_in row q i xs) (i + 1) i) is ∙ cond-true (room_in row q k xs) (k + 1) k has ∙ add-one k in
       became (set (row_part row q xs) k x) _ ys m (length-set (row_part row q xs) k x ∙ l) (omega arith)
-      (ap (λ i. take i (set (row_part row q xs) k x)) more ∙ take_set (row_part row q xs) k x (omega arith) ∙ ap (λ zs. zs ++ (x ∷ [])) stands)
+      (ap (λ i. take i (set (row_part row q xs) k x)) more ∙ take-suc-set (row_part row q xs) k x (omega arith) ∙ ap (λ zs. zs ++ (x ∷ [])) stands)
       (w ∙ ap (λ i. put_in row q i x xs) is ∙ cond-true (room_in row q k xs) (set xs (row * q + k) x) xs has
       ∙ sym (set_mid_at (row * q) q k xs x (omega arith))
       ∙ ap (λ zs. take (row * q) xs ++ (set (row_part row q xs) k x ++ zs)) (drop-drop q (row * q) xs))
