@@ -1,4 +1,5 @@
-// The queues of the tables: a handset's unread and back lists, and a station's notices.
+// The queues of the tables: a handset's unread and back lists, and a station's notices. An index is widened with `as`: after
+// `usize::from` the check does not find that the row lies in memory.
 ghost use Rattle.std.specs.Prelude.{◌≡◌, ℕ, suc, ◌-◌, ◌<◌, List, [], ◌∷◌, ◌++◌, length};
 ghost use Rattle.tables.specs.View.{view};
 ghost use Rattle.rules.specs.Functions.{updated};
