@@ -12,7 +12,6 @@ use Rattle.rules.specs.House.{Row, Sizes, House}
 use Rattle.rules.specs.Sound.{place_in, stage_in, passed_in, notice_in}
 use Rattle.rules.specs.Asking.{shape_questions}
 use Rattle.rules.specs.Opening.{start_right, start_station, opening_refusal, opened}
-use Rattle.order.proofs.Lists.{list_all_nil, list_all_cons}
 use Rattle.order.proofs.Granted.{both_none}
 
 pub station_in : (stations : ℕ) (pl : Place) → place_in stations pl ≡ true → station_of pl < stations
@@ -41,8 +40,8 @@ module _ {B : Type 0} where
 -- the stations that a right start list names
 listed_in : (stations : ℕ) (l : List ℕ) → list_all (λ p. ltb p stations) l ≡ true → 0 < stations → (j : ℕ) → get_or l j 0 < stations
 listed_in stations [] e z j = z
-listed_in stations (x ∷ l) e z zero = ltb-true _ _ (list_all_cons (λ p. ltb p stations) x l e).0
-listed_in stations (x ∷ l) e z (suc j) = listed_in stations l (list_all_cons (λ p. ltb p stations) x l e).1 z j
+listed_in stations (x ∷ l) e z zero = ltb-true _ _ (and_parts _ _ e).0
+listed_in stations (x ∷ l) e z (suc j) = listed_in stations l (and_parts _ _ e).1 z j
 
 start_in : (z : Sizes) (l : List ℕ) → start_right z l ≡ true → 0 < z.stations → (j : ℕ) → start_station l j < z.stations
 start_in z [] e h j = h
@@ -61,5 +60,5 @@ in_opened s z l e =
       stages_in = λ m l. absurd (not-suc-le-zero l);
       places_in = λ j _. lt-ltb _ _ (start_in z l right one j);
       passed_on = λ p j. refl;
-      notices_in = λ p. list_all_nil (notice_in z.handsets z.stations);
+      notices_in = λ p. refl;
     }

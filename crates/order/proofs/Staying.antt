@@ -18,7 +18,7 @@ use Rattle.rules.specs.Asking.{refusal}
 use Rattle.rules.specs.Steps.{Answer, notice, hand, stand_back, send_on, new_row, send_from, read_at, register_at, release_from, settle_at, arrive_at, grant}
 use Rattle.rules.specs.Runs.{History}
 use Rattle.order.proofs.Basics.{updated_both, lt_next}
-use Rattle.order.proofs.Lists.{any_front, list_all_cons, list_all_push}
+use Rattle.order.proofs.Lists.{any_front, list_all_push}
 use Rattle.order.proofs.Ripe.{with_books}
 use Rattle.order.proofs.Arriving.{arrive_ways, hand_wire}
 use Rattle.order.proofs.Invariant.{Invariant}
@@ -128,7 +128,7 @@ module _ {B : Type 0} where
       in_grant (Release p) e =
           let o = (answers fits s (Release p) e).own in
           let x : Notice = front (notice 0 0) (s.notices p) in
-          let w = list_all_cons inside x (rest (s.notices p))
+          let w = and_parts (inside x) (list_all inside (rest (s.notices p)))
           (subst (λ l. list_all inside l ≡ true) (any_front (notice 0 0) (s.notices p) o.1.0) (N.notices_in p)) in
           let to = (and_parts (ltb x.handset handsets) (ltb x.station stations) w.0).1 in
           record {

@@ -8,7 +8,7 @@ use Rattle.rules.specs.Functions.{bit, how_many}
 use Rattle.rules.specs.Places.{leaves}
 use Rattle.rules.specs.Sound.{notice_in}
 use Rattle.order.proofs.Basics.{lt_next}
-use Rattle.order.proofs.Lists.{bit_same, bit_other, list_all_cons}
+use Rattle.order.proofs.Lists.{bit_same, bit_other}
 use Rattle.order.proofs.Noticed.{seen, Noticed}
 
 -- f 0 + f 1 + .. up to the number before n
@@ -52,7 +52,7 @@ how_many_total p (suc n) = omega (arith, how_many_total p n)
 seen_total : (handsets stations : ℕ) (l : List Notice) → list_all (notice_in handsets stations) l ≡ true → length l ≡ total (λ j. seen j l) handsets
 seen_total handsets stations [] e = sym (total_zero handsets)
 seen_total handsets stations (x ∷ l) e =
-    let w = list_all_cons (notice_in handsets stations) x l e in
+    let w = and_parts _ _ e in
     let low = ltb-true x.handset handsets (and_parts (ltb x.handset handsets) (ltb x.station stations) w.0).0 in
     let both = total_plus (λ j. bit (eqb j x.handset)) (λ j. seen j l) handsets in
     omega (arith, seen_total handsets stations l w.1, total_one x.handset handsets low)
