@@ -1,9 +1,8 @@
 -- What the tables say after one of them is changed: the house with one column changed.
-use Rattle.std.proofs.Common.{◌≡◌, ℕ, suc, ◌<◌, max, ◌&&◌, eqb, List, [], length, get_or, set, Some, None, Option, sym, refl, ap, ◌∙◌, subst, ⊎_elim, add-one, arith}
+use Rattle.std.proofs.Common.{◌≡◌, ℕ, suc, ◌<◌, List, [], length, get_or, set, Some, None, Option, refl, ap, ◌∙◌, subst, add-one, arith}
 use mathlib.Core.Path.{fun_ext}
-use native.Mathlib.Nat.{max-eq_right}
 use Rattle.std.proofs.lemmas.List.{get_or-set_same, get_or-set_other}
-use Rattle.std.proofs.lemmas.Bool.{cases_eq, cond-true, cond-false, and_from, and_left, and_right, eq-eqb, ne_eqb}
+use Rattle.std.proofs.lemmas.Grind.{common_steps}
 use Rattle.tally.specs.Counts.{Counts, none, raised}
 use Rattle.rules.specs.declared.place.Place.{Place}
 use Rattle.rules.specs.declared.place.Place.TheVariants.{Kept}
@@ -32,27 +31,7 @@ entry_set ys j v d l = updated_from (λ k. get_or ys k d) (λ k. get_or (set ys 
 one_more : (col : ℕ → List ℕ) (i j : ℕ) → i < length (col j) → (a b : ℕ) →
     get_or (updated col j (set (col j) i (suc (get_or (col j) i 0))) b) a 0
     ≡ raised (λ q. get_or (col q.handset) q.station 0) (on i j) (suc (get_or (col j) i 0)) (on a b)
-one_more col i j inside a b = ⊎_elim
-    (λ eb. subst (Is a) (sym eb) (ap (λ l. get_or l a 0) (updated_same col j (set (col j) i v)) ∙ ⊎_elim
-    (λ ea. subst (λ k. get_or (set (col j) i v) k 0 ≡ after k j) (sym ea)
-    (get_or-set_same (col j) i v 0 inside ∙ sym (cond-true (eqb i i && eqb j j) (max (get_or (col j) i 0) v) (get_or (col j) i 0) (and_from (eqb i i) (eqb j j) (eq-eqb i i refl) (eq-eqb j j refl)) ∙ max_is)))
-    (λ na. get_or-set_other (col j) i a v 0 na ∙ sym (cond-false (eqb a i && eqb j j) (max (get_or (col j) a 0) v) (get_or (col j) a 0) (and_left (eqb a i) (eqb j j) (ne_eqb a i na))))
-    (cases_eq a i)))
-    (λ nb. ap (λ l. get_or l a 0) (updated_other col j (set (col j) i v) b nb)
-    ∙ sym (cond-false (eqb a i && eqb b j) (max (get_or (col b) a 0) v) (get_or (col b) a 0) (and_right (eqb a i) (eqb b j) (ne_eqb b j nb))))
-    (cases_eq b j)
-  where
-    v : ℕ
-    v = suc (get_or (col j) i 0)
-
-    after : ℕ → ℕ → ℕ
-    after x y = raised (λ q. get_or (col q.handset) q.station 0) (on i j) v (on x y)
-
-    Is : ℕ → ℕ → Type 0
-    Is x y = get_or (updated col j (set (col j) i v) y) x 0 ≡ after x y
-
-    max_is : max (get_or (col j) i 0) v ≡ v
-    max_is = max-eq_right (omega arith)
+one_more col i j inside a b = grind (arith, common_steps)
 
 module _ {T : Type 0} where
   passed_same : (g : StationRow T → StationRow T) → ((x : StationRow T) → (g x).passed ≡ x.passed) → (xs : List (StationRow T)) (p : ℕ) →
