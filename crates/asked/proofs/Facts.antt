@@ -3,9 +3,10 @@
 use Rattle.std.proofs.Common.{◌≡◌, ℕ, ◌<◌, ◌≤◌, Bool, true, false, not, ◌||◌, eqb, ltb, leb, length, get_or, sym, refl, subst, ⊎_elim, arith}
 use Rattle.std.proofs.lemmas.Bool.{and_parts, or_cases, leb-true, ltb-true, eqb-true, eqb-false, not-true, both_ways, false≢true}
 use Rattle.std.specs.List.{list_all}
+use Rattle.std.specs.Option.{is_some, unwrap_or}
 use Rattle.rules.specs.declared.place.Place.{Place}
 use Rattle.rules.specs.declared.place.Place.TheVariants.{Kept, Leaving, OnWay}
-use Rattle.rules.specs.Functions.{all_below, how_many, any, front, is_some, or_else}
+use Rattle.rules.specs.Functions.{all_below, how_many, any, front}
 use Rattle.rules.specs.Places.{station_of, is_kept, leaves, heading, is_wire}
 use Rattle.rules.specs.House.{House}
 use Rattle.rules.specs.Steps.{notice}
@@ -153,9 +154,9 @@ module _ {B : Type 0} (s : House B) (e : sound s ≡ true) where
     pub passed_is_in : (j : ℕ) → j < s.sizes.handsets → passed_in s.sizes.stations (s.passed p j) ≡ true
     passed_is_in j h = below_at (λ k. passed_in s.sizes.stations (s.passed p k)) s.sizes.handsets station_parts.1 j h
 
-    pub passed_station : (j : ℕ) → j < s.sizes.handsets → is_some (s.passed p j) ≡ true → or_else 0 (s.passed p j) < s.sizes.stations
+    pub passed_station : (j : ℕ) → j < s.sizes.handsets → is_some (s.passed p j) ≡ true → unwrap_or (s.passed p j) 0 < s.sizes.stations
     passed_station j h y =
-        ltb-true _ _ (unless (is_some (s.passed p j)) (ltb (or_else 0 (s.passed p j)) s.sizes.stations) (passed_is_in j h) y)
+        ltb-true _ _ (unless (is_some (s.passed p j)) (ltb (unwrap_or (s.passed p j) 0) s.sizes.stations) (passed_is_in j h) y)
 
     pub notices_in : list_all (notice_in s.sizes.handsets s.sizes.stations) (s.notices p) ≡ true
     notices_in = station_parts.2

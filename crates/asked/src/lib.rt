@@ -29,7 +29,7 @@ fn within(low: u16, high: u16, n: u16) -> bool
 }
 
 // Have the tables the lengths that these numbers say?
-fn lengths_right<T: Tally, B: Copy>(tables: &Tables<'_, T, B>, numbers: Numbers) -> bool
+fn lengths_right<T: Tally, B>(tables: &Tables<'_, T, B>, numbers: Numbers) -> bool
     ensures { result ≡ lengths_right (asked_sizes (view T.Tally.counts tables.now) numbers) }
 {
     tables.stations.len() == usize::from(numbers.stations)
@@ -41,10 +41,7 @@ fn lengths_right<T: Tally, B: Copy>(tables: &Tables<'_, T, B>, numbers: Numbers)
 }
 
 // The questions about the numbers of a house and the lengths of its tables; the numbers are those that are asked for.
-pub fn shape<T: Tally, B: Copy>(
-    tables: &Tables<'_, T, B>,
-    numbers: Numbers,
-) -> Result<(), HouseFault>
+pub fn shape<T: Tally, B>(tables: &Tables<'_, T, B>, numbers: Numbers) -> Result<(), HouseFault>
     ensures is { result_err result ≡ first_no (shape_questions (asked_sizes (view T.Tally.counts tables.now) numbers)) }
     ensures facts { OnOk result (Shaped (asked_sizes (view T.Tally.counts tables.now) numbers)) }
 {
@@ -67,7 +64,7 @@ pub fn shape<T: Tally, B: Copy>(
 }
 
 // The questions that every step is put first: about the numbers, the lengths, and what the tables name and hold.
-pub fn asked<T: Tally, B: Copy>(tables: &Tables<'_, T, B>) -> Result<(), HouseFault>
+pub fn asked<T: Tally, B>(tables: &Tables<'_, T, B>) -> Result<(), HouseFault>
     ensures is { result_err result ≡ common (view T.Tally.counts tables.now) }
     ensures facts { OnOk result (Asked (view T.Tally.counts tables.now)) }
 {

@@ -4,7 +4,8 @@ ghost use Rattle.tables.specs.Shape.{Shaped};
 use tables::Tables;
 use tally::Tally;
 
-// Tables whose numbers are in range and whose lengths are right.
+// Tables whose numbers are in range and whose lengths are right. There is no `Model` that sees them as the house that they
+// say: a house holds functions, which cannot be the value of a model.
 #[derive(Drop)]
 pub(crate) struct ShapedTables<'a, 'b, T: Tally, B> {
     pub(crate) tables: &'a Tables<'b, T, B>,

@@ -3,12 +3,13 @@ use Rattle.std.proofs.Common.{◌≡◌, ℕ, suc, ◌+◌, ◌<◌, ◌≤◌, 
 use mathlib.Core.Path.{subst⁻¹}
 use Rattle.std.proofs.lemmas.List.{length_push}
 use Rattle.std.proofs.lemmas.Bool.{cases_eq, cond_both}
+use Rattle.std.specs.Option.{unwrap_or}
 use Rattle.rules.specs.declared.place.Stage.{Stage}
 use Rattle.rules.specs.declared.place.Stage.TheVariants.{Wire, Back, Unread}
 use Rattle.rules.specs.declared.call.Call.TheVariants.{Arrive}
 use Rattle.rules.specs.declared.call.Arrived.TheVariants.{Handed, SentOn}
 use Rattle.rules.specs.declared.call.Granted.TheVariants.{Arrived}
-use Rattle.rules.specs.Functions.{updated, times, or_else}
+use Rattle.rules.specs.Functions.{updated, times}
 use Rattle.rules.specs.Places.{holds, is_wire, is_back, is_unread, is_read, is_handed}
 use Rattle.rules.specs.House.{Row, House}
 use Rattle.rules.specs.Changes.{with_back, with_stage}
@@ -33,7 +34,7 @@ module _ {B : Type 0} where
       → (holds p (s.place r.addressee) ≡ true → ripe s.sizes.stations s.handed r ≡ true → P (Ok (Arrived (Handed (hand_all r x s).0)), (hand_all r x s).1))
       → (holds p (s.place r.addressee) ≡ true → ripe s.sizes.stations s.handed r ≡ false → P (Ok (Arrived (Handed 0)), stand_back r x s))
       → (holds p (s.place r.addressee) ≡ false
-      → P (Ok (Arrived (SentOn (or_else 0 (s.passed p r.addressee)))), send_on (or_else 0 (s.passed p r.addressee)) x s))
+      → P (Ok (Arrived (SentOn (unwrap_or (s.passed p r.addressee) 0))), send_on (unwrap_or (s.passed p r.addressee) 0) x s))
       → P (arrive_at p r x s)
   arrive_ways P p r x s hands stands goes_on = cond_both _ _ _ P (λ held. cond_both _ _ _ P (hands held) (stands held)) goes_on
 

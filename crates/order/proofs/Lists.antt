@@ -1,10 +1,10 @@
 -- How often a name stands in a list, and small facts about lists.
 use Rattle.std.proofs.Common.{◌≡◌, ℕ, suc, ◌+◌, ◌<◌, Bool, true, false, eqb, ◌≢◌, ◌⊎◌, List, [], ◌∷◌, ◌++◌, length, Some, None, refl, ap, ◌∙◌, subst, inl, inr, ⊎_elim, not-suc-le-zero, arith}
 use mathlib.Core.Path.{subst⁻¹}
-use Rattle.std.proofs.lemmas.Bool.{eq-eqb, ne_eqb, eqb-true, eqb-false, cond_both, cases_eq, and_parts, and_from, false≢true}
-use Rattle.std.specs.List.{list_all}
+use Rattle.std.proofs.lemmas.Bool.{eq-eqb, ne_eqb, eqb-true, eqb-false, cond_both, cases_eq, and_from, false≢true}
+use Rattle.std.specs.List.{list_all, find}
 use Rattle.std.proofs.lemmas.List.Folds.{list_all-append}
-use Rattle.rules.specs.Functions.{bit, times, first, without, any, front, rest}
+use Rattle.rules.specs.Functions.{bit, times, without, any, front, rest}
 
 pub bit_same : (m x : ℕ) → m ≡ x → bit (eqb m x) ≡ 1
 bit_same m x e = ap bit (eq-eqb m x e)
@@ -44,19 +44,19 @@ length_without x (y ∷ l) h = cond_both (eqb x y) l (y ∷ without x l) (λ z. 
     (λ e. ap suc (length_without x l (⊎_elim (λ k. absurd (eqb-false x y e k)) (λ k. k) (times_cons x y l h))))
 
 -- no name of the list passes the test, or the first that does stands in the list
-pub first_none : (p : ℕ → Bool) (l : List ℕ) → first p l ≡ None → (m : ℕ) → 0 < times m l → p m ≡ false
-unfolding first times
-first_none p [] e m h = absurd (not-suc-le-zero h)
-first_none p (y ∷ l) e m h = cond_both (p y) (Some y) (first p l) (λ o. o ≡ None → p m ≡ false)
+pub find_none : (p : ℕ → Bool) (l : List ℕ) → find p l ≡ None → (m : ℕ) → 0 < times m l → p m ≡ false
+unfolding times
+find_none p [] e m h = absurd (not-suc-le-zero h)
+find_none p (y ∷ l) e m h = cond_both (p y) (Some y) (find p l) (λ o. o ≡ None → p m ≡ false)
     (λ q r. absurd (let z : ◌≡◌ {A = ℕ} 0 1 = cc in omega arith))
-    (λ q r. ⊎_elim (λ k. ap p k ∙ q) (λ k. first_none p l r m k) (times_cons m y l h)) e
+    (λ q r. ⊎_elim (λ k. ap p k ∙ q) (λ k. find_none p l r m k) (times_cons m y l h)) e
 
-pub first_some : (p : ℕ → Bool) (l : List ℕ) (x : ℕ) → first p l ≡ Some x → (p x ≡ true) × (0 < times x l)
-unfolding first times
-first_some p [] x e = absurd (let z : ◌≡◌ {A = ℕ} 0 1 = cc in omega arith)
-first_some p (y ∷ l) x e = cond_both (p y) (Some y) (first p l) (λ o. o ≡ Some x → (p x ≡ true) × (0 < times x (y ∷ l)))
+pub find_some : (p : ℕ → Bool) (l : List ℕ) (x : ℕ) → find p l ≡ Some x → (p x ≡ true) × (0 < times x l)
+unfolding times
+find_some p [] x e = absurd (let z : ◌≡◌ {A = ℕ} 0 1 = cc in omega arith)
+find_some p (y ∷ l) x e = cond_both (p y) (Some y) (find p l) (λ o. o ≡ Some x → (p x ≡ true) × (0 < times x (y ∷ l)))
     (λ q r. let k : x ≡ y = cc in (ap p k ∙ q, subst⁻¹ (λ z. 0 < times z (y ∷ l)) k (times_front y l)))
-    (λ q r. let w = first_some p l x r in (w.0, omega (arith, w.1))) e
+    (λ q r. let w = find_some p l x r in (w.0, omega (arith, w.1))) e
 
 pub any_front : {A : Type 0} (d : A) (l : List A) → any l ≡ true → l ≡ front d l ∷ rest l
 any_front d [] e = absurd (false≢true e)

@@ -3,11 +3,13 @@ use Rattle.std.proofs.Common.{◌≡◌, ℕ, zero, suc, ◌+◌, ◌<◌, ◌�
 use mathlib.Core.Path.{subst⁻¹}
 use Rattle.std.proofs.lemmas.List.{length_push, nil_from_length}
 use Rattle.std.proofs.lemmas.Bool.{false≢true}
+use Rattle.std.specs.Option.{option_map_or}
+use Rattle.std.specs.List.{find}
 use Rattle.tally.specs.declared.pair.Pair.{Pair}
 use Rattle.tally.specs.Counts.{Counts}
 use Rattle.rules.specs.declared.place.Stage.{Stage}
 use Rattle.rules.specs.declared.place.Stage.TheVariants.{Unread}
-use Rattle.rules.specs.Functions.{times, first, without, by_option}
+use Rattle.rules.specs.Functions.{times, without}
 use Rattle.rules.specs.Places.{is_wire, is_back, is_unread, is_read, is_handed}
 use Rattle.rules.specs.House.{Row, House}
 use Rattle.rules.specs.Changes.{with_handed, with_unread, with_back, with_stage}
@@ -15,7 +17,7 @@ use Rattle.rules.specs.Sound.{book}
 use Rattle.rules.specs.Asking.{pair_of, ripe, ripe_in}
 use Rattle.rules.specs.Steps.{hand, one_more, hand_ripe}
 use Rattle.order.proofs.Basics.{updated_here, updated_off, updated_both}
-use Rattle.order.proofs.Lists.{times_nil, times_without, length_without, first_none, first_some}
+use Rattle.order.proofs.Lists.{times_nil, times_without, length_without, find_none, find_some}
 use Rattle.order.proofs.Handing.{more_off}
 use Rattle.order.proofs.Books.{side_take}
 use Rattle.order.proofs.Stages.{test_same, test_here, test_off, stands_back}
@@ -120,12 +122,12 @@ module _ {B : Type 0} where
 
   hands_next : (R : ℕ → Row B) (n j : ℕ) (s : House B) → Core R s → length (s.back j) ≤ suc n
       → ((t : House B) → Core R t → length (t.back j) ≤ n → HandsRipe R j t (hand_ripe n j t).1)
-      → (o : Option ℕ) → first (ripe_in s) (s.back j) ≡ o
-      → HandsRipe R j s (by_option (0, s) (λ x. one_more (hand_ripe n j (hand (s.rows x) x (without x (s.back j)) s))) o).1
+      → (o : Option ℕ) → find (ripe_in s) (s.back j) ≡ o
+      → HandsRipe R j s (option_map_or (λ x. one_more (hand_ripe n j (hand (s.rows x) x (without x (s.back j)) s))) o (0, s)).1
   hands_next R n j s C l later None e = hands_none j C (λ m h.
-      subst (λ (r : Row B). ripe s.sizes.stations s.handed r ≡ false) (C.rows_are m (back_is C j m h).0) (first_none (ripe_in s) (s.back j) e m h))
+      subst (λ (r : Row B). ripe s.sizes.stations s.handed r ≡ false) (C.rows_are m (back_is C j m h).0) (find_none (ripe_in s) (s.back j) e m h))
   hands_next R n j s C l later (Some x) e =
-      let f = first_some (ripe_in s) (s.back j) x e in
+      let f = find_some (ripe_in s) (s.back j) x e in
       let w = back_is C j x f.1 in
       let row = C.rows_are x w.0 in
       let rp = subst (λ (r : Row B). ripe s.sizes.stations s.handed r ≡ true) row f.0 in
@@ -141,4 +143,4 @@ module _ {B : Type 0} where
   unfolding hand_ripe
   hands_ripe R zero j s C l = hands_none j C (λ m h.
       absurd (omega (arith, times_nil m, ap (times m) (nil_from_length (s.back j) (omega arith)))))
-  hands_ripe R (suc n) j s C l = hands_next R n j s C l (λ t D k. hands_ripe R n j t D k) (first (ripe_in s) (s.back j)) refl
+  hands_ripe R (suc n) j s C l = hands_next R n j s C l (λ t D k. hands_ripe R n j t D k) (find (ripe_in s) (s.back j)) refl

@@ -3,6 +3,7 @@ use Rattle.std.proofs.Common.{◌≡◌, ℕ, suc, ◌<◌, Bool, true, false, n
 use mathlib.Core.Path.{subst⁻¹}
 use Rattle.std.proofs.lemmas.Bool.{cases_Bool, and_parts, and_from, or_left, or_cases, both_ways, ltb-true, lt-ltb, eqb-false, ne_eqb, not-true}
 use Rattle.std.specs.List.{list_all}
+use Rattle.std.specs.Option.{is_some, unwrap_or}
 use Rattle.tally.specs.Counts.{Counts}
 use Rattle.rules.specs.declared.place.Place.TheVariants.{Kept, Leaving, OnWay}
 use Rattle.rules.specs.declared.place.Stage.{Stage}
@@ -10,7 +11,7 @@ use Rattle.rules.specs.declared.place.Stage.TheVariants.{Wire, Back, Unread, Rea
 use Rattle.rules.specs.declared.place.Notice.{Notice}
 use Rattle.rules.specs.declared.call.Call.{Call}
 use Rattle.rules.specs.declared.call.Call.TheVariants.{Send, Arrive, ReadNext, Register, Release, Settle}
-use Rattle.rules.specs.Functions.{updated, front, rest, is_some, or_else}
+use Rattle.rules.specs.Functions.{updated, front, rest}
 use Rattle.rules.specs.Places.{station_of, holds, heading, is_wire}
 use Rattle.rules.specs.House.{Row, House}
 use Rattle.rules.specs.Sound.{place_in, stage_in, passed_in, notice_in}
@@ -68,7 +69,7 @@ module _ {B : Type 0} where
         (λ m l. stage_from stations (D.stage m)
         (λ e. subst⁻¹ (λ t. stage_in stations t ≡ true) (D.wire_stays m e) (stages_updated x Unread refl m l)))))
         (λ held unripe. staged s.handed s.unread _ _ (stages_updated x Back refl))
-        (λ away. staged s.handed s.unread s.back _ (stages_updated x (Wire (or_else 0 (s.passed p (s.rows x).addressee)))
+        (λ away. staged s.handed s.unread s.back _ (stages_updated x (Wire (unwrap_or (s.passed p (s.rows x).addressee) 0))
         (⊎_elim (λ e. absurd (both_ways _ (ap not (on away)) e)) (λ e. e) (or_cases _ _ (N.passed_on p (s.rows x).addressee)))))
 
     module _ (fits : Counts → Bool) where

@@ -8,7 +8,7 @@
 --   refusal          the refusal of a call on a house, or none
 --   after_send, after_join, after_read, after_settle   the counts that a call would leave at its station
 --   fit              do counts fit the kind of tally? The tally's own refusal is told.
-use Rattle.std.specs.Prelude.{ℕ, suc, ◌-◌, ◌*◌, Bool, cond, not, ◌&&◌, ◌||◌, List, [], ◌∷◌, Option, ◌==◌, nat_le, nat_lt}
+use Rattle.std.specs.Prelude.{ℕ, suc, ◌-◌, ◌*◌, Bool, cond, not, ◌&&◌, ◌||◌, List, [], ◌∷◌, Option, ◌==◌, nat_le, nat_lt, is_some}
 use Rattle.tally.specs.declared.pair.Pair.{Pair}
 use Rattle.tally.specs.Counts.{Counts, raised, larger}
 use Rattle.tally.specs.Answers.{first_misfit}
@@ -18,7 +18,7 @@ use Rattle.rules.specs.declared.fault.HouseFault.{HouseFault}
 use Rattle.rules.specs.declared.fault.HouseFault.TheVariants.{Stations, Handsets, Rows, Places, Lengths as WrongLengths, Tables, NoHandset, NoStation, NoMessage, ToItself, NotKept, SameStation, NoRow, NotOnWire, NotHeld, BookFull, NothingUnread, NoNotice, NotOnWay, Station}
 use Rattle.rules.specs.declared.call.Call.{Call}
 use Rattle.rules.specs.declared.call.Call.TheVariants.{Send, Arrive, ReadNext, Register, Release, Settle}
-use Rattle.rules.specs.Functions.{all_below, front, any, is_some, within}
+use Rattle.rules.specs.Functions.{all_below, front, any, within}
 use Rattle.rules.specs.Places.{station_of, is_kept, is_on_way, holds, awaits, heading, is_wire}
 use Rattle.rules.specs.House.{Row, Sizes, House}
 use Rattle.rules.specs.Sound.{on, book, sound}

@@ -5,16 +5,12 @@
 --   all_below  a test holds of every number below a given one
 --   how_many   of how many numbers below a given one it holds
 --   times      how often a name stands in a list
---   first      the first name in a list that passes a test
 --   without    a list without the first place at which a name stands in it
 --   front      what stands first in a list, or a given thing where the list is empty
 --   rest       the list without what stands first
 --   any        whether a list holds anything
---   is_some    whether there is a value
---   or_else    the value, or a given one where there is none
---   by_option  one thing where there is no value, and what comes of the value where there is one
 --   within     a number is at least the one given and at most the other
-use Rattle.std.specs.Prelude.{ℕ, zero, suc, ◌+◌, Bool, true, false, cond, ◌&&◌, List, [], ◌∷◌, Some, None, Option, ◌==◌, nat_le}
+use Rattle.std.specs.Prelude.{ℕ, zero, suc, ◌+◌, Bool, true, false, cond, ◌&&◌, List, [], ◌∷◌, ◌==◌, nat_le}
 
 abbrev pub updated : {A : Type 0} → (ℕ → A) → ℕ → A → ℕ → A
 updated f i a n = cond (n == i) a (f n)
@@ -35,10 +31,6 @@ unfoldable pub times : ℕ → List ℕ → ℕ
 times m [] = 0
 times m (x ∷ l) = bit (m == x) + times m l
 
-unfoldable pub first : (ℕ → Bool) → List ℕ → Option ℕ
-first p [] = None
-first p (x ∷ l) = cond (p x) (Some x) (first p l)
-
 unfoldable pub without : ℕ → List ℕ → List ℕ
 without m [] = []
 without m (x ∷ l) = cond (m == x) l (x ∷ without m l)
@@ -54,18 +46,6 @@ rest (x ∷ l) = l
 abbrev pub any : {A : Type 0} → List A → Bool
 any [] = false
 any (x ∷ l) = true
-
-abbrev pub is_some : {A : Type 0} → Option A → Bool
-is_some None = false
-is_some (Some a) = true
-
-abbrev pub or_else : {A : Type 0} → A → Option A → A
-or_else d None = d
-or_else d (Some a) = a
-
-abbrev pub by_option : {A C : Type 0} → C → (A → C) → Option A → C
-by_option c f None = c
-by_option c f (Some a) = f a
 
 abbrev pub within : ℕ → ℕ → ℕ → Bool
 within low high n = nat_le low n && nat_le n high

@@ -9,13 +9,14 @@
 --   opening          the refusal of an opening, or none, and the house that it leaves
 use Rattle.std.specs.Prelude.{ℕ, Bool, not, ◌&&◌, ◌||◌, List, [], ◌∷◌, length, None, Option, ◌==◌, nat_lt, slice_index}
 use Rattle.std.specs.List.{list_all}
+use Rattle.std.specs.Option.{option_map_or}
 use Rattle.tally.specs.Counts.{none}
 use Rattle.questions.specs.Asking.{first_no, or_next}
 use Rattle.rules.specs.declared.numbers.Numbers.{Numbers}
 use Rattle.rules.specs.declared.place.Place.TheVariants.{Kept}
 use Rattle.rules.specs.declared.fault.HouseFault.{HouseFault}
 use Rattle.rules.specs.declared.fault.HouseFault.TheVariants.{StartList}
-use Rattle.rules.specs.Functions.{any, by_option}
+use Rattle.rules.specs.Functions.{any}
 use Rattle.rules.specs.House.{Sizes, House}
 use Rattle.rules.specs.Asking.{shape_questions}
 
@@ -50,4 +51,4 @@ module _ {B : Type 0} where
   }
 
   abbrev pub opening : Sizes → List ℕ → House B → Option HouseFault × House B
-  opening z l s = (opening_refusal z l, by_option (opened z l s) (λ e. s) (opening_refusal z l))
+  opening z l s = (opening_refusal z l, option_map_or (λ e. s) (opening_refusal z l) (opened z l s))

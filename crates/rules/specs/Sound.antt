@@ -9,14 +9,14 @@
 --   station_sound  a station has at most as many notices as handsets are leaving it, has passed handsets to stations of
 --                  the house, and its notices name handsets and stations of the house
 --   sound          there are at most as many rows in use as rows, and all of that holds
-use Rattle.std.specs.Prelude.{ℕ, ◌+◌, Bool, not, ◌&&◌, ◌||◌, List, length, Option, ◌==◌, nat_le, nat_lt}
+use Rattle.std.specs.Prelude.{ℕ, ◌+◌, Bool, not, ◌&&◌, ◌||◌, List, length, Option, ◌==◌, nat_le, nat_lt, is_some, unwrap_or}
 use Rattle.std.specs.List.{list_all}
 use Rattle.tally.specs.declared.pair.Pair.{Pair}
 use Rattle.rules.specs.declared.place.Place.{Place}
 use Rattle.rules.specs.declared.place.Place.TheVariants.{Kept, Leaving, OnWay}
 use Rattle.rules.specs.declared.place.Stage.{Stage}
 use Rattle.rules.specs.declared.place.Notice.{Notice}
-use Rattle.rules.specs.Functions.{all_below, how_many, is_some, or_else}
+use Rattle.rules.specs.Functions.{all_below, how_many}
 use Rattle.rules.specs.Places.{heading, is_wire, leaves}
 use Rattle.rules.specs.House.{House}
 
@@ -33,7 +33,7 @@ abbrev pub stage_in : ℕ → Stage → Bool
 stage_in stations t = not (is_wire t) || nat_lt (heading t) stations
 
 abbrev pub passed_in : ℕ → Option ℕ → Bool
-passed_in stations x = not (is_some x) || nat_lt (or_else 0 x) stations
+passed_in stations x = not (is_some x) || nat_lt (unwrap_or x 0) stations
 
 abbrev pub notice_in : ℕ → ℕ → Notice → Bool
 notice_in handsets stations x = nat_lt x.handset handsets && nat_lt x.station stations

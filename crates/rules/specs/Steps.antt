@@ -9,7 +9,8 @@
 --   send_from, read_at, register_at, release_from, settle_at   what a granted call leaves
 --   grant         the answer of a granted call, and the house that it leaves
 --   step          the answer of any call, and the house that it leaves: a denied call leaves the house as it was
-use Rattle.std.specs.Prelude.{ℕ, zero, suc, Bool, cond, List, [], ◌∷◌, ◌++◌, length, Some, None, Option, Ok, Err, Result}
+use Rattle.std.specs.Prelude.{ℕ, zero, suc, Bool, cond, List, [], ◌∷◌, ◌++◌, length, Some, None, Option, Ok, Err, Result, unwrap_or, find}
+use Rattle.std.specs.Option.{option_map_or}
 use Rattle.tally.specs.Counts.{Counts, none, raised}
 use Rattle.rules.specs.declared.place.Place.TheVariants.{Kept, Leaving, OnWay}
 use Rattle.rules.specs.declared.place.Stage.TheVariants.{Wire, Back, Unread, Read}
@@ -21,7 +22,7 @@ use Rattle.rules.specs.declared.call.Call.TheVariants.{Send, Arrive, ReadNext, R
 use Rattle.rules.specs.declared.call.Arrived.TheVariants.{Handed, SentOn}
 use Rattle.rules.specs.declared.call.Granted.{Granted}
 use Rattle.rules.specs.declared.call.Granted.TheVariants.{Named, Arrived, Got, Registered, Released, Settled}
-use Rattle.rules.specs.Functions.{updated, first, without, front, rest, or_else, by_option}
+use Rattle.rules.specs.Functions.{updated, without, front, rest}
 use Rattle.rules.specs.Places.{station_of, holds, heading}
 use Rattle.rules.specs.House.{Row, House}
 use Rattle.rules.specs.Changes.{with_used, with_counts, with_notices, with_passed, with_place, with_handed, with_carried, with_unread, with_back, with_rows, with_stage}
@@ -50,7 +51,7 @@ module _ {B : Type 0} where
   unfoldable pub hand_ripe : ℕ → ℕ → House B → ℕ × House B
   hand_ripe zero j s = (0, s)
   hand_ripe (suc n) j s =
-      by_option (0, s) (λ x. one_more (hand_ripe n j (hand (s.rows x) x (without x (s.back j)) s))) (first (ripe_in s) (s.back j))
+      option_map_or (λ x. one_more (hand_ripe n j (hand (s.rows x) x (without x (s.back j)) s))) (find (ripe_in s) (s.back j)) (0, s)
 
   unfoldable pub stand_back : Row B → ℕ → House B → House B
   stand_back r x s =
@@ -111,7 +112,7 @@ module _ {B : Type 0} where
       (cond (ripe s.sizes.stations s.handed r)
       (Ok (Arrived (Handed (hand_all r x s).0)), (hand_all r x s).1)
       (Ok (Arrived (Handed 0)), stand_back r x s))
-      (Ok (Arrived (SentOn (or_else 0 (s.passed p r.addressee)))), send_on (or_else 0 (s.passed p r.addressee)) x s)
+      (Ok (Arrived (SentOn (unwrap_or (s.passed p r.addressee) 0))), send_on (unwrap_or (s.passed p r.addressee) 0) x s)
 
   abbrev pub grant : House B → Call B → Answer B × House B
   grant s (Send a j b) = (Ok (Named s.used), send_from (station_of (s.place a)) a j b s)

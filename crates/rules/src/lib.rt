@@ -30,7 +30,7 @@ impl From<StationFault> for HouseFault {
 }
 
 impl HouseFault {
-    // The refusal's number. What refusals tell is never the same of two of them.
+    // The refusal's number, which the project fixes. What refusals tell is never the same of two of them.
     pub fn number(self) -> u8
         ensures is { result ≡ (tells self).number }
         ensures told_apart { (other : Fault) → tells other ≡ tells self → other ≡ self }

@@ -39,11 +39,6 @@ set_modify (x ∷ xs) (suc i) f d = ap (λ ys. x ∷ ys) (set_modify xs i f d)
 pub set_modify_read : {X : Type 0} (xs : List X) (i : ℕ) (f : X → X) (x : X) → x ≡ get_or xs i x → set xs i (f x) ≡ modify xs i f
 set_modify_read xs i f x r = ap (λ y. set xs i (f y)) r ∙ set_modify xs i f x
 
-pub modify_past : {X : Type 0} (xs : List X) (i : ℕ) (f : X → X) → length xs ≤ i → xs ≡ modify xs i f
-modify_past [] i f l = refl
-modify_past (x ∷ xs) zero f l = let b : ⊥ = omega arith in absurd b
-modify_past (x ∷ xs) (suc i) f l = ap (λ ys. x ∷ ys) (modify_past xs i f (omega arith))
-
 pub length_modify : {X : Type 0} (xs : List X) (i : ℕ) (f : X → X) → length (modify xs i f) ≡ length xs
 length_modify [] i f = refl
 length_modify (x ∷ xs) zero f = refl
