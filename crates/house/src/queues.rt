@@ -15,8 +15,8 @@ use tally::Tally;
 // Puts a name at the end of a handset's unread list.
 pub(crate) fn put_unread<T: Tally, B: Copy>(tables: &mut Tables<'_, T, B>, handset: u16, name: u16)
     requires there { handset < length tables.old.handsets.now }
-    requires room { HasRoom (view T.Tally.counts tables.old) ((view T.Tally.counts tables.old).unread handset) tables.old.head.now.numbers.places }
-    ensures { view T.Tally.counts tables.new ≡ with_unread (updated (view T.Tally.counts tables.old).unread handset ((view T.Tally.counts tables.old).unread handset ++ (name ∷ []))) (view T.Tally.counts tables.old) }
+    requires room { let was = view T.Tally.counts tables.old in HasRoom was (was.unread handset) tables.old.head.now.numbers.places }
+    ensures { let was = view T.Tally.counts tables.old in view T.Tally.counts tables.new ≡ with_unread (updated was.unread handset (was.unread handset ++ (name ∷ []))) was }
 {
     let row = &mut tables.handsets[handset as usize];
     let own = Row {
@@ -29,8 +29,8 @@ pub(crate) fn put_unread<T: Tally, B: Copy>(tables: &mut Tables<'_, T, B>, hands
 // Takes out what stands at a position of it.
 pub(crate) fn take_unread<T: Tally, B: Copy>(tables: &mut Tables<'_, T, B>, handset: u16, at: usize)
     requires there { handset < length tables.old.handsets.now }
-    requires stands { Stands (view T.Tally.counts tables.old) ((view T.Tally.counts tables.old).unread handset) at }
-    ensures { view T.Tally.counts tables.new ≡ with_unread (updated (view T.Tally.counts tables.old).unread handset (without_at ((view T.Tally.counts tables.old).unread handset) at)) (view T.Tally.counts tables.old) }
+    requires stands { let was = view T.Tally.counts tables.old in Stands was (was.unread handset) at }
+    ensures { let was = view T.Tally.counts tables.old in view T.Tally.counts tables.new ≡ with_unread (updated was.unread handset (without_at (was.unread handset) at)) was }
 {
     let row = &mut tables.handsets[handset as usize];
     let own = Row {
@@ -43,8 +43,8 @@ pub(crate) fn take_unread<T: Tally, B: Copy>(tables: &mut Tables<'_, T, B>, hand
 // Puts a name at the end of a handset's back list.
 pub(crate) fn put_back<T: Tally, B: Copy>(tables: &mut Tables<'_, T, B>, handset: u16, name: u16)
     requires there { handset < length tables.old.handsets.now }
-    requires room { HasRoom (view T.Tally.counts tables.old) ((view T.Tally.counts tables.old).back handset) tables.old.head.now.numbers.places }
-    ensures { view T.Tally.counts tables.new ≡ with_back (updated (view T.Tally.counts tables.old).back handset ((view T.Tally.counts tables.old).back handset ++ (name ∷ []))) (view T.Tally.counts tables.old) }
+    requires room { let was = view T.Tally.counts tables.old in HasRoom was (was.back handset) tables.old.head.now.numbers.places }
+    ensures { let was = view T.Tally.counts tables.old in view T.Tally.counts tables.new ≡ with_back (updated was.back handset (was.back handset ++ (name ∷ []))) was }
 {
     let row = &mut tables.handsets[handset as usize];
     let own = Row {
@@ -57,8 +57,8 @@ pub(crate) fn put_back<T: Tally, B: Copy>(tables: &mut Tables<'_, T, B>, handset
 // Takes out what stands at a position of it.
 pub(crate) fn take_back<T: Tally, B: Copy>(tables: &mut Tables<'_, T, B>, handset: u16, at: usize)
     requires there { handset < length tables.old.handsets.now }
-    requires stands { Stands (view T.Tally.counts tables.old) ((view T.Tally.counts tables.old).back handset) at }
-    ensures { view T.Tally.counts tables.new ≡ with_back (updated (view T.Tally.counts tables.old).back handset (without_at ((view T.Tally.counts tables.old).back handset) at)) (view T.Tally.counts tables.old) }
+    requires stands { let was = view T.Tally.counts tables.old in Stands was (was.back handset) at }
+    ensures { let was = view T.Tally.counts tables.old in view T.Tally.counts tables.new ≡ with_back (updated was.back handset (without_at (was.back handset) at)) was }
 {
     let row = &mut tables.handsets[handset as usize];
     let own = Row {
@@ -75,8 +75,8 @@ pub(crate) fn put_notice<T: Tally, B: Copy>(
     notice: Notice,
 )
     requires there { station < length tables.old.stations.now }
-    requires room { HasRoom (view T.Tally.counts tables.old) ((view T.Tally.counts tables.old).notices station) tables.old.head.now.numbers.handsets }
-    ensures { view T.Tally.counts tables.new ≡ with_notices (updated (view T.Tally.counts tables.old).notices station ((view T.Tally.counts tables.old).notices station ++ (notice ∷ []))) (view T.Tally.counts tables.old) }
+    requires room { let was = view T.Tally.counts tables.old in HasRoom was (was.notices station) tables.old.head.now.numbers.handsets }
+    ensures { let was = view T.Tally.counts tables.old in view T.Tally.counts tables.new ≡ with_notices (updated was.notices station (was.notices station ++ (notice ∷ []))) was }
 {
     let row = &mut tables.stations[station as usize];
     let own = Row {
@@ -89,8 +89,8 @@ pub(crate) fn put_notice<T: Tally, B: Copy>(
 // Takes out what stands at a position of them.
 pub(crate) fn take_notice<T: Tally, B: Copy>(tables: &mut Tables<'_, T, B>, station: u16, at: usize)
     requires there { station < length tables.old.stations.now }
-    requires stands { Stands (view T.Tally.counts tables.old) ((view T.Tally.counts tables.old).notices station) at }
-    ensures { view T.Tally.counts tables.new ≡ with_notices (updated (view T.Tally.counts tables.old).notices station (without_at ((view T.Tally.counts tables.old).notices station) at)) (view T.Tally.counts tables.old) }
+    requires stands { let was = view T.Tally.counts tables.old in Stands was (was.notices station) at }
+    ensures { let was = view T.Tally.counts tables.old in view T.Tally.counts tables.new ≡ with_notices (updated was.notices station (without_at (was.notices station) at)) was }
 {
     let row = &mut tables.stations[station as usize];
     let own = Row {

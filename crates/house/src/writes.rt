@@ -18,7 +18,7 @@ pub(crate) fn set_place<T: Tally, B: Copy>(
     place: Place,
 )
     requires { handset < length tables.old.handsets.now }
-    ensures { view T.Tally.counts tables.new ≡ with_place (updated (view T.Tally.counts tables.old).place handset place) (view T.Tally.counts tables.old) }
+    ensures { let was = view T.Tally.counts tables.old in view T.Tally.counts tables.new ≡ with_place (updated was.place handset place) was }
 {
     tables.handsets[handset as usize].place = place;
 }
@@ -26,7 +26,7 @@ pub(crate) fn set_place<T: Tally, B: Copy>(
 // A handset carries another tally.
 pub(crate) fn set_carried<T: Tally, B: Copy>(tables: &mut Tables<'_, T, B>, handset: u16, tally: T)
     requires { handset < length tables.old.handsets.now }
-    ensures { view T.Tally.counts tables.new ≡ with_carried (updated (view T.Tally.counts tables.old).carried handset (T.Tally.counts tally)) (view T.Tally.counts tables.old) }
+    ensures { let was = view T.Tally.counts tables.old in view T.Tally.counts tables.new ≡ with_carried (updated was.carried handset (T.Tally.counts tally)) was }
 {
     tables.handsets[handset as usize].carried = tally;
 }
@@ -34,7 +34,7 @@ pub(crate) fn set_carried<T: Tally, B: Copy>(tables: &mut Tables<'_, T, B>, hand
 // A station has another tally.
 pub(crate) fn set_tally<T: Tally, B: Copy>(tables: &mut Tables<'_, T, B>, station: u16, tally: T)
     requires { station < length tables.old.stations.now }
-    ensures { view T.Tally.counts tables.new ≡ with_counts (updated (view T.Tally.counts tables.old).counts station (T.Tally.counts tally)) (view T.Tally.counts tables.old) }
+    ensures { let was = view T.Tally.counts tables.old in view T.Tally.counts tables.new ≡ with_counts (updated was.counts station (T.Tally.counts tally)) was }
 {
     tables.stations[station as usize].tally = tally;
 }
@@ -48,7 +48,7 @@ pub(crate) fn set_passed<T: Tally, B: Copy>(
 )
     requires station { station < length tables.old.stations.now }
     requires handset { handset < 32 }
-    ensures { view T.Tally.counts tables.new ≡ with_passed (updated (view T.Tally.counts tables.old).passed station (updated ((view T.Tally.counts tables.old).passed station) handset (Some to))) (view T.Tally.counts tables.old) }
+    ensures { let was = view T.Tally.counts tables.old in view T.Tally.counts tables.new ≡ with_passed (updated was.passed station (updated (was.passed station) handset (Some to))) was }
 {
     let row = &mut tables.stations[station as usize];
     row.passed[handset as usize] = Some(to);
@@ -63,7 +63,7 @@ pub(crate) fn count_handed<T: Tally, B: Copy>(
     requires station { station < 8 }
     requires handset { handset < length tables.old.handsets.now }
     requires few { (view T.Tally.counts tables.old).handed (on station handset) < 65535 }
-    ensures { view T.Tally.counts tables.new ≡ with_handed (raised (view T.Tally.counts tables.old).handed (on station handset) (suc ((view T.Tally.counts tables.old).handed (on station handset)))) (view T.Tally.counts tables.old) }
+    ensures { let was = view T.Tally.counts tables.old in view T.Tally.counts tables.new ≡ with_handed (raised was.handed (on station handset) (suc (was.handed (on station handset)))) was }
 {
     let row = &mut tables.handsets[handset as usize];
     row.handed[station as usize] += 1;
@@ -72,7 +72,7 @@ pub(crate) fn count_handed<T: Tally, B: Copy>(
 // A message is at another stage.
 pub(crate) fn set_stage<T: Tally, B: Copy>(tables: &mut Tables<'_, T, B>, name: u16, stage: Stage)
     requires { name < length tables.old.roll.now }
-    ensures { view T.Tally.counts tables.new ≡ with_stage (updated (view T.Tally.counts tables.old).stage name stage) (view T.Tally.counts tables.old) }
+    ensures { let was = view T.Tally.counts tables.old in view T.Tally.counts tables.new ≡ with_stage (updated was.stage name stage) was }
 {
     tables.roll[name as usize].stage = stage;
 }
