@@ -1,11 +1,12 @@
 -- Comparing handed counts with tags, station by station and name by name.
-use Rattle.std.proofs.Common.{◌≡◌, ℕ, zero, suc, ◌+◌, ◌<◌, ◌≤◌, Bool, true, false, cond, leb, List, length, get_or, drop, Some, None, sym, refl, ◌∙◌, subst, add-one, arith}
-use Rattle.std.proofs.lemmas.List.{at_drop_more, at_drop_all}
-use Rattle.std.proofs.lemmas.Bool.{lt-leb, le-leb, and_from, and_left, and_right}
+use Rattle.std.proofs.Common.{◌≡◌, ℕ, zero, suc, ◌+◌, ◌<◌, ◌≤◌, Bool, true, false, cond, leb, ltb, List, length, get_or, Some, None, sym, refl, ap, ◌∙◌, subst, add-one, arith}
+use Rattle.std.specs.List.{position, position_or_len}
+use Rattle.std.proofs.lemmas.List.Sums.{position_or_len_is}
+use Rattle.std.proofs.lemmas.Bool.{lt-leb, le-leb, lt-ltb, le-ltb, cond-true, cond-false, and_from, and_left, and_right}
 use Rattle.tally.specs.Counts.{Counts}
 use Rattle.rules.specs.Functions.{all_below}
 use Rattle.rules.specs.Sound.{on}
-use Rattle.book.specs.Ripening.{ripe_for, first_place}
+use Rattle.book.specs.Ripening.{ripe_for}
 
 -- a test that fails somewhere does not hold of all
 falls_short : (p : ℕ → Bool) (n i : ℕ) → i < n → p i ≡ false → all_below p n ≡ false
@@ -37,16 +38,13 @@ module _ (handed : ℕ → ℕ) (j : ℕ) (tag : Counts) where
   ripe_all i n a b e = let same : i ≡ n = omega arith in subst (λ k. ripe_for k handed j tag ≡ true) same e
 
 -- the search for the first that passes a test
-module _ {X : Type 0} (p : X → Bool) (xs : List X) (i : ℕ) where
-  step : (d : X) → i < length xs → first_place p i (drop i xs) ≡ cond (p (get_or xs i d)) (Some i) (first_place p (i + 1) (drop (i + 1) xs))
-  step d l = at_drop_more (first_place p i) xs i d l
+module _ {X : Type 0} (p : X → Bool) (xs : List X) (d : X) where
+  pub first_found : (i : ℕ) → i < length xs → ((k : ℕ) → k < i → p (get_or xs k d) ≡ false) → p (get_or xs i d) ≡ true → Some i ≡ position p xs
+  first_found i l below here =
+      let e : position_or_len p xs ≡ i = position_or_len_is p xs i d (omega arith) below (λ _. here) in
+      sym (ap (λ k. cond (ltb k (length xs)) (Some k) None) e ∙ cond-true (ltb i (length xs)) (Some i) None (lt-ltb i (length xs) l))
 
-  pub first_more : (d : X) → i < length xs → p (get_or xs i d) ≡ false → first_place p i (drop i xs) ≡ first_place p 0 xs →
-      first_place p (i + 1) (drop (i + 1) xs) ≡ first_place p 0 xs
-  first_more d l t e = sym (rw t at (step d l)) ∙ e
-
-  pub first_stop : (d : X) → i < length xs → p (get_or xs i d) ≡ true → first_place p i (drop i xs) ≡ first_place p 0 xs → Some i ≡ first_place p 0 xs
-  first_stop d l t e = sym (rw t at (step d l)) ∙ e
-
-  pub first_done : length xs ≤ i → first_place p i (drop i xs) ≡ first_place p 0 xs → None ≡ first_place p 0 xs
-  first_done l e = let m : first_place p i (drop i xs) ≡ None = at_drop_all (first_place p i) xs i l in sym m ∙ e
+  pub none_found : (i : ℕ) → length xs ≤ i → ((k : ℕ) → k < i → p (get_or xs k d) ≡ false) → None ≡ position p xs
+  none_found i l below =
+      let e : position_or_len p xs ≡ length xs = position_or_len_is p xs (length xs) d (omega arith) (λ k h. below k (omega arith)) (λ h. absurd (omega arith)) in
+      sym (ap (λ k. cond (ltb k (length xs)) (Some k) None) e ∙ cond-false (ltb (length xs) (length xs)) (Some (length xs)) None (le-ltb (length xs) (length xs) (omega arith)))

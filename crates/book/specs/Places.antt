@@ -6,8 +6,10 @@
 --   with_part  the table with the row's places replaced
 --   room_in    one more fits behind the first `len` of them
 --   put_in     the table with an element put there
+--   taken      what stands at a position of the first `len` of them, or none
 --   take_in    the table with what stands at a position of the first `len` taken out, closed up
-use Rattle.std.specs.Prelude.{ℕ, ◌+◌, ◌*◌, Bool, cond, ◌&&◌, List, ◌++◌, length, take, drop, None, Option, nat_le, nat_lt, slice_set}
+--   left_in    how many stand there after that
+use Rattle.std.specs.Prelude.{ℕ, ◌+◌, ◌-◌, ◌*◌, min, Bool, cond, ◌&&◌, List, ◌++◌, length, take, drop, None, Option, nat_le, nat_lt, slice_set}
 use Rattle.std.specs.List.{slice_get}
 use Rattle.queue.specs.Standing.{standing, without_at, with_front}
 
@@ -38,3 +40,6 @@ module _ {X : Type 0} where
       cond (in_table row width xs)
       (with_part row width (with_front (without_at (standing len (row_part row width xs)) at) (row_part row width xs)) xs)
       xs
+
+  abbrev pub left_in : ℕ → ℕ → ℕ → ℕ → List X → ℕ
+  left_in row width len at xs = cond (in_table row width xs && nat_lt at (min len width)) (min len width - 1) len

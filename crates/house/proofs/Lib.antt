@@ -1,3 +1,4 @@
+pub mod Rewriting
 pub mod Held
 pub mod Views
 pub mod Queued

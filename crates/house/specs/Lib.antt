@@ -1,3 +1,2 @@
-pub mod Rewriting
 pub mod Bounded
 pub mod Ready

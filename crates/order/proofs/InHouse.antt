@@ -40,8 +40,8 @@ module _ {B : Type 0} where
 -- the stations that a right start list names
 listed_in : (stations : ℕ) (l : List ℕ) → list_all (λ p. ltb p stations) l ≡ true → 0 < stations → (j : ℕ) → get_or l j 0 < stations
 listed_in stations [] e z j = z
-listed_in stations (x ∷ l) e z zero = ltb-true _ _ (and_parts (ltb x stations) (list_all (λ p. ltb p stations) l) e).0
-listed_in stations (x ∷ l) e z (suc j) = listed_in stations l (and_parts (ltb x stations) (list_all (λ p. ltb p stations) l) e).1 z j
+listed_in stations (x ∷ l) e z zero = ltb-true _ _ (and_parts _ _ e).0
+listed_in stations (x ∷ l) e z (suc j) = listed_in stations l (and_parts _ _ e).1 z j
 
 start_in : (z : Sizes) (l : List ℕ) → start_right z l ≡ true → 0 < z.stations → (j : ℕ) → start_station l j < z.stations
 start_in z [] e h j = h

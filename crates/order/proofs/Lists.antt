@@ -1,8 +1,9 @@
 -- How often a name stands in a list, and small facts about lists.
 use Rattle.std.proofs.Common.{◌≡◌, ℕ, suc, ◌+◌, ◌<◌, Bool, true, false, eqb, ◌≢◌, ◌⊎◌, List, [], ◌∷◌, ◌++◌, length, Some, None, refl, ap, ◌∙◌, subst, inl, inr, ⊎_elim, not-suc-le-zero, arith}
 use mathlib.Core.Path.{subst⁻¹}
-use Rattle.std.proofs.lemmas.Bool.{eq-eqb, ne_eqb, eqb-true, eqb-false, cond_both, cases_eq, and_parts, and_from, false≢true}
+use Rattle.std.proofs.lemmas.Bool.{eq-eqb, ne_eqb, eqb-true, eqb-false, cond_both, cases_eq, and_from, false≢true}
 use Rattle.std.specs.List.{list_all, find}
+use Rattle.std.proofs.lemmas.List.Folds.{list_all-append}
 use Rattle.rules.specs.Functions.{bit, times, without, any, front, rest}
 
 pub bit_same : (m x : ℕ) → m ≡ x → bit (eqb m x) ≡ 1
@@ -66,7 +67,5 @@ unfolding times
 list_all_from p [] h = refl
 list_all_from p (x ∷ l) h = and_from _ _ (h x (times_front x l)) (list_all_from p l (λ m z. h m (omega arith)))
 
-module _ {A : Type 0} (p : A → Bool) where
-  pub list_all_push : (l : List A) (x : A) → list_all p l ≡ true → p x ≡ true → list_all p (l ++ (x ∷ [])) ≡ true
-  list_all_push [] x e f = and_from (p x) true f refl
-  list_all_push (y ∷ l) x e f = let w = and_parts (p y) (list_all p l) e in and_from _ _ w.0 (list_all_push l x w.1 f)
+pub list_all_push : {A : Type 0} (p : A → Bool) (l : List A) (x : A) → list_all p l ≡ true → p x ≡ true → list_all p (l ++ (x ∷ [])) ≡ true
+list_all_push p l x e f = list_all-append p l (x ∷ []) ∙ and_from _ _ e (and_from _ true f refl)

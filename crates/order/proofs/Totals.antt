@@ -52,7 +52,7 @@ how_many_total p (suc n) = omega (arith, how_many_total p n)
 seen_total : (handsets stations : ℕ) (l : List Notice) → list_all (notice_in handsets stations) l ≡ true → length l ≡ total (λ j. seen j l) handsets
 seen_total handsets stations [] e = sym (total_zero handsets)
 seen_total handsets stations (x ∷ l) e =
-    let w = and_parts (notice_in handsets stations x) (list_all (notice_in handsets stations) l) e in
+    let w = and_parts _ _ e in
     let low = ltb-true x.handset handsets (and_parts (ltb x.handset handsets) (ltb x.station stations) w.0).0 in
     let both = total_plus (λ j. bit (eqb j x.handset)) (λ j. seen j l) handsets in
     omega (arith, seen_total handsets stations l w.1, total_one x.handset handsets low)

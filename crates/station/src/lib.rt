@@ -47,8 +47,7 @@ pub fn raise<T: Tally>(tally: &mut T, pair: Pair, number: u16) -> Result<(), Sta
     ensures answers { result ≡ carried (raising T.fits (T.counts tally.old) pair number) }
     ensures leaves { MatchResult result (λ _. T.counts tally.new ≡ raised (T.counts tally.old) pair number) (λ _. tally.new ≡ tally.old) }
 {
-    tally.raise(pair, number)?;
-    Ok(())
+    Ok(tally.raise(pair, number)?)
 }
 
 // Leaves the larger count of a tally of the station's and another at each pair.
@@ -56,8 +55,7 @@ pub fn join<T: Tally>(tally: &mut T, other: &T) -> Result<(), StationFault>
     ensures answers { result ≡ carried (verdict T.fits (larger (T.counts tally.old) (T.counts other.now)) tt) }
     ensures leaves { MatchResult result (λ _. T.counts tally.new ≡ larger (T.counts tally.old) (T.counts other.now)) (λ _. tally.new ≡ tally.old) }
 {
-    tally.join(other)?;
-    Ok(())
+    Ok(tally.join(other)?)
 }
 
 // One more than a tag counts of a pair.

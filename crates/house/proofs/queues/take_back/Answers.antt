@@ -1,8 +1,13 @@
 use Rattle.tables.specs.View.{whole}
-use Rattle.house.proofs.Queued.{take_back_view}
+use Rattle.tables.proofs.Changing.{column_read}
+use Rattle.house.proofs.Held.{take_became}
+use Rattle.house.proofs.Queued.{back_fits}
+use Rattle.house.proofs.Views.{back_view}
 use Rattle.house.proofs.queues.take_back.Goals as goal
 
 pub returns : goal.returns
 returns g c =
-    take_back_view g.T.Tally.counts (whole c.args.tables.now) c.requires.bounded c.args.handset c.requires.there c.args.at c.back_count-count.result
-    c.take_in.new.places c.back_row.new.handsets c.back_count-count.ensures.column c.take_in.ensures.leaves c.back_row.ensures c.requires.stands
+    let w = whole c.args.tables.now in let i = c.args.handset in let counts = g.T.Tally.counts in let next = c.take_in.new in
+    back_view counts w i c.requires.there _ next.len next.places _
+    (take_became 0 i w.head.numbers.places w.back _ (back_fits counts w c.requires.stands.bounded i c.requires.there) c.args.at _ next.len next.places
+    (column_read (λ x. x.back) 0 w.handsets i _ c.requires.there) c.requires.stands.stands c.take_in.ensures.leaves c.take_in.ensures.counts)

@@ -1,9 +1,6 @@
-use Rattle.std.proofs.Common.{ap, ◌∙◌}
-use Rattle.tables.specs.View.{viewed, whole}
-use Rattle.house.proofs.Views.{with_stations, tally_view}
+use Rattle.tables.specs.View.{whole}
+use Rattle.house.proofs.Views.{tally_view}
 use Rattle.house.proofs.writes.set_tally.Goals as goal
 
 pub returns : goal.returns
-returns g c =
-    ap (λ rows. viewed g.T.Tally.counts (with_stations g.T.Tally.counts (whole c.args.tables.now) rows)) c.tally_row.ensures
-    ∙ tally_view g.T.Tally.counts (whole c.args.tables.now) c.args.station c.requires c.args.tally
+returns g c = tally_view g.T.Tally.counts (whole c.args.tables.now) c.args.station c.requires _ c.args.tally

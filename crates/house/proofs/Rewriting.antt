@@ -9,7 +9,7 @@
 --   passing     with a handset passed on to a station
 --   noticing    with another number of notices
 --   staged      a message with another stage
-use Rattle.std.specs.Prelude.{ℕ, suc, Some, slice_index, slice_set}
+use Rattle.std.specs.Prelude.{ℕ, ◌+◌, Some, slice_index, slice_set}
 use Rattle.rules.specs.declared.place.Place.{Place}
 use Rattle.rules.specs.declared.place.Stage.{Stage}
 use Rattle.tables.specs.declared.rows.StationRow.{StationRow}
@@ -24,7 +24,7 @@ module _ {T : Type 0} where
   carrying t x = record x { carried = t }
 
   abbrev pub handing : ℕ → HandsetRow T → HandsetRow T
-  handing i x = record x { handed = slice_set x.handed i (suc (slice_index x.handed i)) }
+  handing i x = record x { handed = slice_set x.handed i (slice_index x.handed i + 1) }
 
   abbrev pub unread_as : ℕ → HandsetRow T → HandsetRow T
   unread_as n x = record x { unread = n }
