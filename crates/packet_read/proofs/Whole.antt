@@ -1,6 +1,6 @@
 -- A packet read part by part: the first part with a no decides.
-use Rattle.std.proofs.Common.{◌≡◌, ℕ, ◌≤◌, Bool, true, cond, ltb, List, ◌++◌, length, Some, None, Option, ap, ◌∙◌}
-use Rattle.std.proofs.lemmas.Bool.{cond-true, and_parts, and_from, leb-true, eqb-true}
+use Rattle.std.proofs.Common.{◌≡◌, ℕ, Bool, true, cond, ltb, List, ◌++◌, Some, None, Option, ap, ◌∙◌}
+use Rattle.std.proofs.lemmas.Bool.{cond-true, and_parts, and_from}
 use Rattle.tally.specs.Counts.{Counts}
 use Rattle.questions.specs.Asking.{Question, first_no}
 use Rattle.questions.proofs.Asked.{passed, stopped, all_yes}
