@@ -1,5 +1,5 @@
 -- A line asks at most one thing.
-use Rattle.std.proofs.Common.{◌≡◌, ◌≢◌, ℕ, List, [], ◌∷◌, ◌++◌, Bor, lit<, get_or, drop, IfOk, Ok, Err, Result, codes, sym, refl, ap, ◌∙◌, arith}
+use Rattle.std.proofs.Common.{◌≡◌, ◌≢◌, ℕ, List, [], ◌∷◌, ◌++◌, Bor, lit<, get_or, drop, IfOk, Ok, Err, Result, sym, refl, ap, ◌∙◌, arith}
 use Rattle.std.specs.List.{All}
 use Rattle.packet_text.specs.declared.line.TallyKind.{TallyKind}
 use Rattle.packet_text.specs.declared.line.TallyKind.TheVariants.{Full, Listed}

@@ -159,7 +159,10 @@ fn accepted_text<T: CountedPairs, B: Printed>(
 }
 
 // What is printed of a packet that is read with some kind of tally and of body.
-fn outcome_text<T: CountedPairs, B: Printed>(heap: Global, packet: &[u8]) -> Result<String, AllocError>
+fn outcome_text<T: CountedPairs, B: Printed>(
+    heap: Global,
+    packet: &[u8],
+) -> Result<String, AllocError>
     ensures { IfOk result (λ text. string_bytes text ≡ outcome_text B.Body.kind B.Printed.text (reading B.Body.kind B.Body.lawful T.Tally.fits packet.now)) }
 {
     match packet_read::read::<T, B>(packet) {
