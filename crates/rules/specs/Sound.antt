@@ -1,8 +1,9 @@
 -- What every house's tables may name and hold. Only rows in use and places that are filled are looked at.
 --
 --   book           how many messages a handset's book holds: its unread list and its back list
---   row_sound      a message's station and handsets are in the house and the handsets differ; on the wire, it heads for
+--   message_sound  a message's station and handsets are in the house and the handsets differ; on the wire, it heads for
 --                  a station of the house
+--   row_sound      the message of a name is sound
 --   names_sound    a list of a handset's holds names in use of messages to that handset
 --   handset_sound  a handset's place names stations of the house, its book holds at most as many as it has places, its
 --                  lists are sound, and its handed counts are at most 4,096
@@ -18,7 +19,7 @@ use Rattle.rules.specs.declared.place.Stage.{Stage}
 use Rattle.rules.specs.declared.place.Notice.{Notice}
 use Rattle.rules.specs.Functions.{all_below, how_many}
 use Rattle.rules.specs.Places.{heading, is_wire, leaves}
-use Rattle.rules.specs.House.{House}
+use Rattle.rules.specs.House.{Row, House}
 
 -- the pair of a station and a handset
 abbrev pub on : ℕ → ℕ → Pair
@@ -46,10 +47,14 @@ module _ {B : Type 0} where
   abbrev pub book : House B → ℕ → ℕ
   book s j = length (s.unread j) + length (s.back j)
 
+  -- with this row and at this stage, in a house of so many stations and handsets
+  abbrev pub message_sound : ℕ → ℕ → Row B → Stage → Bool
+  message_sound stations handsets r t =
+      nat_lt r.station stations && nat_lt r.sender handsets && nat_lt r.addressee handsets
+      && not (r.addressee == r.sender) && stage_in stations t
+
   abbrev pub row_sound : House B → ℕ → Bool
-  row_sound s m =
-      nat_lt (s.rows m).station s.sizes.stations && nat_lt (s.rows m).sender s.sizes.handsets && nat_lt (s.rows m).addressee s.sizes.handsets
-      && not ((s.rows m).addressee == (s.rows m).sender) && stage_in s.sizes.stations (s.stage m)
+  row_sound s m = message_sound s.sizes.stations s.sizes.handsets (s.rows m) (s.stage m)
 
   abbrev pub names_sound : House B → ℕ → List ℕ → Bool
   names_sound s j l = list_all (name_in s.used j (λ m. (s.rows m).addressee)) l
