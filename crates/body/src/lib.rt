@@ -40,7 +40,7 @@ pub trait Body: Copy {
     // the bytes that the kind accepts
     ghost lawful: { List ℕ → Bool };
 
-    // The kind's number.
+    // The kind's number, which is a byte of packets; what the product fixes as a number stays one.
     fn kind() -> u8
         ensures { result ≡ kind };
 

@@ -13,7 +13,7 @@ mod cells;
 
 pub use cells::Full;
 
-// the place at which each station's row of cells starts
+// the place at which each station's row of cells starts; the project fixes this table
 const STARTS: [usize; 8] = [0, 32, 64, 96, 128, 160, 192, 224];
 
 // The place of a pair's cell; a pair out of range has none.

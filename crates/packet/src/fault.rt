@@ -1,7 +1,7 @@
 use station::StationFault;
 
 // Why a packet is refused, with the byte place where that is not always the same.
-#[derive(Clone, Copy)]
+#[derive(Clone, Copy, Debug, PartialEq, Eq)]
 pub enum Fault {
     // there are not enough bytes; the packet's length
     Short(usize),

@@ -69,7 +69,7 @@ impl<T, B> Message<T, B> {
 }
 
 impl Fault {
-    // The refusal's number. What refusals tell is never the same of two of them.
+    // The refusal's number, which the product fixes. What refusals tell is never the same of two of them.
     pub fn number(self) -> u8
         ensures is { result ≡ (tells self).number }
         ensures told_apart { (other : PacketFault) → tells other ≡ tells self → other ≡ self }
@@ -124,7 +124,7 @@ impl From<ShortBuffer> for PackFault {
 }
 
 impl PackFault {
-    // The refusal's number.
+    // The refusal's number, which the product fixes.
     pub fn number(self) -> u8
         ensures { result ≡ pack_number self }
     {

@@ -136,7 +136,8 @@ impl fmt::Display for Refused {
     }
 }
 
-// The most bytes of a packet: 256 pairs, and a body of 255 bytes.
+// The most bytes of a packet: 256 pairs, and a body of 255 bytes. A buffer of that size, since packing writes over a buffer
+// and takes no memory.
 const LONGEST_PACKET: usize = 1293;
 
 // What is printed of a message that is accepted.

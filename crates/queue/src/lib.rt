@@ -6,7 +6,7 @@ ghost use Rattle.std.specs.List.{slice_get};
 ghost use Rattle.queue.specs.Standing.{queued, filled, without_at, with_front, putting};
 
 // Why nothing is put: every place is taken.
-#[derive(Clone, Copy)]
+#[derive(Clone, Copy, Debug, PartialEq, Eq)]
 pub struct QueueFull;
 
 // What stands in a queue is the first `len` of its places, and all of them where `len` is past the last. It stays over the
@@ -60,7 +60,7 @@ impl<'a, E: Copy> Queue<'a, E> {
         Some(x)
     }
 
-    // Takes out what stands first.
+    // Takes out what stands first: `take_at` at 0, by the name that the project gives it.
     pub fn take_front(&mut self) -> Option<E>
         ensures same_places { self.new.places.ghost_name ≡ self.old.places.ghost_name }
         ensures answers { result ≡ slice_get (queued self.old) 0 }

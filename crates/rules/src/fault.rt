@@ -1,7 +1,7 @@
 use station::StationFault;
 
 // Why a house denies a call: one case for each question that is answered no.
-#[derive(Clone, Copy)]
+#[derive(Clone, Copy, Debug, PartialEq, Eq)]
 pub enum HouseFault {
     // the number of stations is not 1 to 8
     Stations,

@@ -1,5 +1,5 @@
 // Where a handset is.
-#[derive(Clone, Copy, PartialEq, Eq)]
+#[derive(Clone, Copy, Debug, PartialEq, Eq)]
 pub enum Place {
     // a station keeps it
     Kept { station: u8 },
@@ -10,7 +10,7 @@ pub enum Place {
 }
 
 // Where a message is.
-#[derive(Clone, Copy, PartialEq, Eq)]
+#[derive(Clone, Copy, Debug, PartialEq, Eq)]
 pub enum Stage {
     // on the wire, heading for a station
     Wire { heading: u8 },
@@ -23,7 +23,7 @@ pub enum Stage {
 }
 
 // What a station knows of a handset that is leaving it: which, and for where.
-#[derive(Clone, Copy, PartialEq, Eq)]
+#[derive(Clone, Copy, Debug, PartialEq, Eq)]
 pub struct Notice {
     pub handset: u8,
     pub station: u8,

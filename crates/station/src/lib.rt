@@ -23,7 +23,7 @@ impl From<Refusal> for StationFault {
 }
 
 impl StationFault {
-    // The refusal's number.
+    // The refusal's number, which the product fixes.
     pub fn number(self) -> u8
         ensures { result ≡ fault_number self }
     {

@@ -7,7 +7,8 @@ use rules::{Notice, Place, Stage};
 use tally::Tally;
 
 // The tables of a house, which the caller brings. A handset's unread places begin at its number times the number of
-// places a handset, its back places likewise, and a station's notice places at its number times the number of handsets.
+// places a handset, its back places likewise, and a station's notice places at its number times the number of handsets. The
+// project fixes these tables: memory that the caller lends, no heap, and messages named by their row of the roll.
 pub struct Tables<'a, T, B> {
     pub head: &'a mut Head,
     pub stations: &'a mut [StationRow<T>],
@@ -37,7 +38,7 @@ pub fn tag_of<T: Tally, B>(roll: &[RollRow<T, B>], name: u16) -> T
     }
 }
 
-// Readers of single entries and of queues. A reader of an entry answers every number: past a table's end it answers as a
+// Readers of single entries and of queues, one a column, since each has a clause of its own. A reader of an entry answers every number: past a table's end it answers as a
 // newly opened house would. Where no tally is found the answer is a `match`: `map_or_else(T::blank, ..)` gets no proof.
 impl<T: Tally, B> Tables<'_, T, B> {
     ghost use Rattle.std.specs.Prelude.{◌≡◌, ℕ, ◌+◌, ◌*◌, ◌≤◌, ◌↔◌, length, None, IfSome, IsSome};

@@ -41,14 +41,16 @@ impl Pair {
         self.station as usize * 32 + self.handset as usize
     }
 
-    // The place of the first pair in range at or after this one; `PAIRS` or more where there is none.
+    // The place of the first pair in range at or after this one; `PAIRS` or more where there is none. No `Option`: where a
+    // search begins, past the last place is a place too.
     pub fn start(self) -> usize
         ensures { result ≡ start self }
     {
         self.station as usize * 32 + usize::min(self.handset as usize, 32)
     }
 
-    // The pair that comes next in the order, in range or not.
+    // The pair that comes next in the order, in range or not; the last is its own next. No `Option`, since the call answers
+    // every pair, and after a pair in range there is always a next.
     pub fn after(self) -> Pair
         ensures { result ≡ after self }
     {
@@ -122,7 +124,8 @@ pub trait Tally: Copy {
         if self.try_raise(pair, number).is_ok() {
             return Ok(());
         }
-        // The counts that it would leave are built up in order, to the first pair at which they no longer fit.
+        // The counts that it would leave are built up in order, to the first pair at which they no longer fit. A chain would be
+        // no plainer: what is built goes along.
         let mut built = Self::blank();
         for place in 0..PAIRS {
             let at = Pair::at(place);
