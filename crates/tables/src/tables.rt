@@ -38,9 +38,9 @@ pub fn tag_of<T: Tally, B>(roll: &[RollRow<T, B>], name: u16) -> T
     }
 }
 
-// Readers of single entries and of queues, one a column, since each has a clause of its own. A reader of an entry answers every
-// number: past a table's end it answers as a newly opened house would. Where no tally is found the answer is a `match`:
-// `map_or_else(T::blank, ..)` gets no proof.
+// Readers of single entries and of queues, one a column, since each has a clause of its own. A reader of an entry answers
+// every number: past a table's end it answers as a newly opened house would. Where no tally is found the answer is a
+// `match`: `map_or_else(T::blank, ..)` gets no proof.
 impl<T: Tally, B> Tables<'_, T, B> {
     ghost use Rattle.std.specs.Prelude.{◌≡◌, ℕ, ◌+◌, ◌*◌, ◌≤◌, ◌↔◌, length, None, IfSome, IsSome};
     ghost use Rattle.rules.specs.Sound.{on};
