@@ -24,7 +24,7 @@ fn place(pair: Pair) -> Option<usize>
         .then(|| STARTS[pair.station as usize] + pair.handset as usize)
 }
 
-// Leaves the larger of two cells at each place.
+// Leaves the larger of two cells at each place. Over `zip` no proof closed: what it has written stays unknown.
 fn join_cells(cells: &mut [u16; 256], others: &[u16; 256])
     ensures { (k : ℕ) → k < 256 → slice_index cells.new k ≡ max (slice_index cells.old k) (slice_index others.now k) }
 {
