@@ -2,8 +2,8 @@
 --
 --   Bounded   the numbers and lengths are right, no book holds more than its handset has places, and no station has more
 --             notices than there are handsets
---   HasRoom   such tables, of which a queue holds less than so many places
---   Stands    such tables, of which a queue has one at a position
+--   HasRoom   such tables, with a queue that holds fewer than so many
+--   Stands    such tables, with a queue that has one at a position
 use Rattle.std.specs.Prelude.{ℕ, ◌<◌, ◌≤◌, List, length}
 use Rattle.rules.specs.House.{House}
 use Rattle.rules.specs.Sound.{book}

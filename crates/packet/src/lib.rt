@@ -119,7 +119,7 @@ impl From<ShortBuffer> for PackFault {
     ghost from_gives = { λ short fault. fault ≡ PackShortBuffer };
 
     fn from(_short: ShortBuffer) -> PackFault {
-        PackFault::ShortBuffer
+        Self::ShortBuffer
     }
 }
 

@@ -5,7 +5,8 @@
 --   next_word  the 16-bit number of the two bytes from its place on
 --   needs      the question whether there are so many bytes from its place on
 --   asked      what an answer says to the questions that were put: none where it is granted, else what the refusal tells
---   Takes      the questions decide an answer; where it is granted, the reader has gone so many bytes on, and a fact holds of the answer
+--   Takes      the questions decide an answer, and the packet stays; where the answer is granted, the reader has gone so many
+--              bytes on, and a fact holds of what it answers
 --   placed     a station's answer, with the byte place of a pair in its refusal
 --   outcome    an answer by its meaning: the content of the message, or what the refusal tells
 use Rattle.std.specs.Prelude.{◌≡◌, ℕ, ◌+◌, List, Some, None, Ok, Err, Option, Result, IfOk}

@@ -5,7 +5,7 @@
 --   verdict       the answer of a call that would leave a table of counts: granted where they fit,
 --                 else a refusal that names the first misfit
 --   raises        whether a pair is in range and the counts with it raised to a number fit
---   trying        the answer that says no more than that
+--   trying        the answer to a try to raise: granted where that holds, else a refusal that says no more
 --   raising       the answer to raising a pair to a number; a pair out of range is named itself
 --   next_counted  the first counted pair at or after a given one, with its count
 use Rattle.std.specs.Prelude.{ℕ, zero, suc, Bool, cond, ◌&&◌, List, [], ◌∷◌, Some, None, Ok, Err, Option, Result}
