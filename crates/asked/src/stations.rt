@@ -24,7 +24,7 @@ fn count_leaving(counts: &mut [u16], place: Place)
     }
 }
 
-// How many handsets are leaving each station.
+// How many handsets are leaving each station, in one pass over them.
 fn leaving_counts<T>(handsets: &[HandsetRow<T>]) -> [u16; 8]
     requires { length handsets.now < 65536 }
     ensures { (p : ℕ) → p < 8 → slice_index result p ≡ how_many (λ j. leaves p (places_of handsets.now j)) (length handsets.now) }

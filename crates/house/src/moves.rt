@@ -1,4 +1,5 @@
-// Handsets go from station to station: registering, releasing and settling.
+// Handsets go from station to station: registering, releasing and settling. Numbers are widened with `as`, which the check
+// reads through; with `u16::from` the three proofs did not close.
 ghost use Rattle.std.specs.Prelude.{◌≡◌, ℕ};
 ghost use Rattle.tally.specs.Counts.{none};
 ghost use Rattle.rules.specs.Steps.{register_at, release_from, settle_at};

@@ -1,6 +1,7 @@
 // The queues of the tables: a handset's unread and back lists, and a station's notices. Each has its two functions, since no
-// function can lend out the part of a table and its count together; what they share is `book::Row`. An index is widened with
-// `as`: after `usize::from` the check does not find that the row lies in memory.
+// function can lend out the part of a table and its count together; what they share is `book::Row`. That there is room, or
+// something stands there, is asked, so that the answer of `put_in` and `take_in` says nothing new; that the row is there is an
+// index's bound. An index is widened with `as`: after `usize::from` the check does not find that the row lies in memory.
 ghost use Rattle.std.specs.Prelude.{◌≡◌, ℕ, suc, ◌-◌, ◌<◌, List, [], ◌∷◌, ◌++◌, length};
 ghost use Rattle.tables.specs.View.{view};
 ghost use Rattle.rules.specs.Functions.{updated};

@@ -1,6 +1,6 @@
 // Writers of single entries: each changes one column of what the tables say, and nothing else. A row is written by its
 // index, since no clause of a slice's `get_mut` says what the slice ends as; that the row is there is what an index asks, and
-// no shorter by another name.
+// no shorter by another name. An index is widened with `as`: after `usize::from` the check does not find the row in memory.
 ghost use Rattle.std.specs.Prelude.{◌≡◌, ℕ, suc, ◌<◌, length, Some};
 ghost use Rattle.tally.specs.Counts.{raised};
 ghost use Rattle.rules.specs.Functions.{updated};

@@ -17,7 +17,7 @@ ghost use Rattle.packet_read.specs.Fields.{packet, asked, Takes, placed, outcome
 use body::Body;
 use packet::{Fault, Head, Message};
 use station::StationFault;
-use tally::{Pair, Tally};
+use tally::{MOST, Pair, Tally};
 
 mod fields;
 mod reader;
@@ -61,7 +61,7 @@ fn head<B: Body>(reader: &mut Reader) -> Result<(Head, u16), Fault>
     ))
 }
 
-// A station's fault, at the byte place of a pair.
+// A station's fault, at the byte place of a pair: the project wants the tally's refusal turned by `From` all the way up.
 #[derive(Clone, Copy)]
 struct Misfit {
     place: usize,
@@ -88,7 +88,7 @@ fn raise_at<T: Tally>(tag: &mut T, place: usize, pair: Pair, count: u16) -> Resu
 fn rises_from(least: usize, pair: Pair, count: u16) -> bool
     ensures { result ≡ (inside pair && (nat_le least (rank pair) && (nat_le 1 count && nat_le count 8191))) }
 {
-    pair.in_range() && least <= pair.rank() && (1..=8191).contains(&count)
+    pair.in_range() && least <= pair.rank() && (1..=MOST).contains(&count)
 }
 
 // The next pair, into the tag; the least place in the order that the one after it may have.

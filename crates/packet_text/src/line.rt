@@ -1,14 +1,14 @@
 use arrayvec::ArrayVec;
 
 // The kind of tally with which a packet is to be read.
-#[derive(Clone, Copy)]
+#[derive(Clone, Copy, Debug, PartialEq, Eq)]
 pub enum TallyKind {
     Full,
     Listed,
 }
 
 // The kind of body that a packet is to carry.
-#[derive(Clone, Copy)]
+#[derive(Clone, Copy, Debug, PartialEq, Eq)]
 pub enum BodyKind {
     Code,
     Note,

@@ -1,7 +1,7 @@
 use crate::fault::HouseFault;
 
 // A step that a house is asked to take. The numbers are as they come; whether they are in range is asked.
-#[derive(Clone, Copy)]
+#[derive(Clone, Copy, Debug, PartialEq, Eq)]
 pub enum Call<B> {
     // a handset sends a body to another
     Send {
@@ -33,7 +33,7 @@ pub enum Call<B> {
 }
 
 // What an arrival does to its message.
-#[derive(Clone, Copy)]
+#[derive(Clone, Copy, Debug, PartialEq, Eq)]
 pub enum Arrived {
     // it is taken in; how many messages were handed
     Handed(u16),
@@ -42,7 +42,7 @@ pub enum Arrived {
 }
 
 // What a granted call tells.
-#[derive(Clone, Copy)]
+#[derive(Clone, Copy, Debug, PartialEq, Eq)]
 pub enum Granted<B> {
     // a send: the message's name
     Named(u16),

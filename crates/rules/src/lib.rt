@@ -1,4 +1,4 @@
-// The rules of a house as definitions, over the calls, answers and places of the code; the proofs about them; and the
+// The rules of a house as definitions, over the calls, answers and places of the code, and the
 // refusals with their numbers.
 #![tactic(auto)]
 

@@ -1,5 +1,5 @@
 // The numbers that a house is opened with.
-#[derive(Clone, Copy)]
+#[derive(Clone, Copy, Debug, PartialEq, Eq)]
 pub struct Numbers {
     pub stations: u16,
     pub handsets: u16,

@@ -1,4 +1,4 @@
-// The tables of a house: what they hold, what they say, and readers of single entries.
+// The tables of a house: what they hold, what they say, and readers of single entries and of queues.
 #![tactic(auto)]
 
 mod rows;

@@ -32,15 +32,12 @@ fn first_places<E>(places: &[E], row: u16, width: u16, filled: u16) -> Option<&[
 pub fn tag_of<T: Tally, B>(roll: &[RollRow<T, B>], name: u16) -> T
     ensures { T.Tally.counts result ≡ (rows_of T.Tally.counts roll.now name).tag }
 {
-    match roll.get(usize::from(name)) {
-        Some(row) => row.tag,
-        None => T::blank(),
-    }
+    roll.get(usize::from(name))
+        .map_or(T::blank(), |row| row.tag)
 }
 
 // Readers of single entries and of queues, one a column, since each has a clause of its own. A reader of an entry answers
-// every number: past a table's end it answers as a newly opened house would. Where no tally is found the answer is a
-// `match`: `map_or_else(T::blank, ..)` gets no proof.
+// every number, past a table's end as a newly opened house would: so the rules need no word for a row that is not there.
 impl<T: Tally, B> Tables<'_, T, B> {
     ghost use Rattle.std.specs.Prelude.{◌≡◌, ℕ, ◌+◌, ◌*◌, ◌≤◌, ◌↔◌, length, None, IfSome, IsSome};
     ghost use Rattle.rules.specs.Sound.{on};
@@ -71,10 +68,9 @@ impl<T: Tally, B> Tables<'_, T, B> {
     pub fn carried(&self, handset: u16) -> T
         ensures { T.Tally.counts result ≡ (view T.Tally.counts self.now).carried handset }
     {
-        match self.handsets.get(usize::from(handset)) {
-            Some(row) => row.carried,
-            None => T::blank(),
-        }
+        self.handsets
+            .get(usize::from(handset))
+            .map_or(T::blank(), |row| row.carried)
     }
 
     // How many messages of a handset's book are unread.
@@ -117,10 +113,9 @@ impl<T: Tally, B> Tables<'_, T, B> {
     pub fn tally(&self, station: u16) -> T
         ensures { T.Tally.counts result ≡ (view T.Tally.counts self.now).counts station }
     {
-        match self.stations.get(usize::from(station)) {
-            Some(row) => row.tally,
-            None => T::blank(),
-        }
+        self.stations
+            .get(usize::from(station))
+            .map_or(T::blank(), |row| row.tally)
     }
 
     // How many notices a station has.

@@ -124,8 +124,8 @@ pub trait Tally: Copy {
         if self.try_raise(pair, number).is_ok() {
             return Ok(());
         }
-        // The counts that it would leave are built up in order, to the first pair at which they no longer fit. A chain would
-        // be no plainer: what is built goes along.
+        // The counts that it would leave are built up in order, to the first pair at which they no longer fit. Over
+        // `map(Pair::at)` the loop gets no proof in a trait's body.
         let mut built = Self::blank();
         for place in 0..PAIRS {
             let at = Pair::at(place);
