@@ -56,11 +56,11 @@ impl Body for Note {
     }
 
     fn read(told: &[u8]) -> Option<Note> {
+        // The length comes first, so that no more than 24 bytes are ever gone through.
+        let text = ShortList::from_slice(told, 0)?;
         if !all_printable(told) {
             return None;
         }
-        Some(Note {
-            text: ShortList::from_slice(told, 0)?,
-        })
+        Some(Note { text })
     }
 }

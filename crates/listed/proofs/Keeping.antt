@@ -1,10 +1,11 @@
 -- A list that holds the counted pairs of a table in order.
-use Rattle.std.specs.Prelude.{◌≡◌, ℕ, ◌≤◌, true, List, length}
-use Rattle.std.proofs.Common.{sym, ap, ◌∙◌, arith}
+use Rattle.std.specs.Prelude.{◌≡◌, ℕ, ◌≤◌, true, List, [], length}
+use Rattle.std.proofs.Common.{sym, refl, ap, ◌∙◌, arith}
 use Rattle.tally.specs.declared.pair.Pair.{Pair}
 use Rattle.tally.specs.Counts.{Counts, none, counted_pairs, count_of, none_above}
 use Rattle.tally.proofs.Bounds.{bounded_from}
 use Rattle.tally.proofs.Building.{Ranged}
+use Rattle.tally.proofs.Listing.{none_counted}
 use Rattle.tally.proofs.Splitting.{count_of_counted}
 use Rattle.listed.specs.Entries.{InOrder, listed_fits}
 use Rattle.listed.specs.Laws.{in_order_fits}
@@ -23,6 +24,10 @@ pub kept : (c : Counts) → Ranged c → none_above 8191 c ≡ true → (es : Li
 kept c ranged low es lists =
     let counts : count_of es ≡ c = ap count_of lists ∙ count_of_counted c ranged in
     record { ordered = lists ∙ ap counted_pairs (sym counts); low = ap (none_above 8191) counts ∙ low; counts = counts }
+
+-- an empty list is that of the tally that counts nothing
+pub nothing_kept : (es : List (Pair × ℕ)) → es ≡ [] → Kept es none
+nothing_kept es e = kept none (λ p o. refl) none_low es (e ∙ sym none_counted)
 
 pub kept_fits : {es : List (Pair × ℕ)} {c : Counts} → Kept es c → length es ≤ 96 → listed_fits c ≡ true
 kept_fits {es} k few = ap listed_fits (sym k.counts) ∙ in_order_fits es k.ordered k.low few

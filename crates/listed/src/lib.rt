@@ -4,7 +4,7 @@
 ghost use Rattle.std.specs.Prelude.{◌≡◌, ℕ, ◌+◌, ◌<◌, ◌≤◌, true, false, List, [], ◌∷◌, ◌++◌, length, take, drop, if◌then◌else◌, Err, MatchResult};
 ghost use Rattle.shortlist.proofs.Items.{most_items};
 ghost use Rattle.tally.specs.Pairs.{inside};
-ghost use Rattle.tally.specs.Counts.{raised, larger, counted_pairs, count_of, none_above};
+ghost use Rattle.tally.specs.Counts.{none, raised, larger, counted_pairs, count_of, none_above};
 ghost use Rattle.tally.specs.Answers.{verdict};
 ghost use Rattle.listed.specs.Entries.{InOrder, seek, listed_fits};
 ghost use Rattle.listed.specs.Listing.{listed, sought, Sought};
@@ -52,21 +52,22 @@ fn past(list: &[Entry], pair: Pair) -> &[Entry]
     }
 }
 
-// Two tallies merged, with the larger count where both count a pair; or the first pair for which there is no place.
-fn merged(first: &Listed, second: &Listed) -> Result<Listed, Refusal>
+// Merges two tallies into a blank one, with the larger count where both count a pair. It is refused at the first pair for
+// which there is no place.
+fn merge(first: &Listed, second: &Listed, merged: &mut Listed) -> Result<(), Refusal>
+    requires { count_of (listed merged.old) ≡ none }
     ensures { MatchResult result
-        (λ t. listed t ≡ counted_pairs (larger (count_of (listed first.now)) (count_of (listed second.now))))
+        (λ _. listed merged.new ≡ counted_pairs (larger (count_of (listed first.now)) (count_of (listed second.now))))
         (λ e. Err e ≡ verdict {A = Unit {0}} listed_fits (larger (count_of (listed first.now)) (count_of (listed second.now))) tt) }
 {
     let mut a = first.list();
     let mut b = second.list();
-    let mut merged = Listed::blank();
     while let Some(entry) = front(a, b) {
         merged.push(entry)?;
         a = past(a, entry.0);
         b = past(b, entry.0);
     }
-    Ok(merged)
+    Ok(())
 }
 
 impl Listed {
@@ -175,7 +176,9 @@ impl Tally for Listed {
     }
 
     fn join(&mut self, other: &Listed) -> Result<(), Refusal> {
-        *self = merged(self, other)?;
+        let mut merged = Listed::blank();
+        merge(self, other, &mut merged)?;
+        *self = merged;
         Ok(())
     }
 }

@@ -2,7 +2,7 @@ use Rattle.std.proofs.Common.{ℕ, ◌-◌, length}
 use Rattle.tally.specs.Counts.{count_of}
 use Rattle.listed.specs.Listing.{listed}
 use Rattle.listed.proofs.Merges.{Merging}
-use Rattle.listed.proofs.merged.Given as goal
+use Rattle.listed.proofs.merge.Given as goal
 
 -- some place of the order is reached: the lists are left from it on, and merged before it
 abbrev pub invariant-loop-entry : goal.invariant-loop-entry

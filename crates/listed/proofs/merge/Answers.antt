@@ -5,11 +5,11 @@ use Rattle.tally.specs.Pairs.{rank}
 use Rattle.listed.specs.Listing.{listed}
 use Rattle.shortlist.proofs.Items.{most_items}
 use Rattle.listed.proofs.Joining.{begun, goes_on, next_kept, stops, ends}
-use Rattle.listed.proofs.merged.Goals as goal
+use Rattle.listed.proofs.merge.Goals as goal
 
 pub loop-entry-init : goal.loop-entry-init
 loop-entry-init c =
-    (0, begun c.args.first.now c.args.second.now c.list-a.result.now c.list-b.result.now c.list-a.ensures c.list-b.ensures c.blank-merged.result c.blank-merged.ensures)
+    (0, begun c.args.first.now c.args.second.now c.list-a.result.now c.list-b.result.now c.list-a.ensures c.list-b.ensures c.args.merged.now c.requires)
 
 pub push-requires-clause-ordered : goal.push-requires-clause-ordered
 push-requires-clause-ordered c =
