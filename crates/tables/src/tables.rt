@@ -1,7 +1,10 @@
 ghost use Rattle.std.specs.Prelude.{◌≡◌, ◌+◌, ◌*◌, ◌≤◌, ◌↔◌, length, IfSome, IsSome};
 ghost use Rattle.tables.specs.Columns.{part};
-ghost use Rattle.tables.specs.View.{rows_of};
 
+use crate::readers::{
+    addressee_of, back_length, body_of, carried_of, handed_of, notice_count, passed_of, place_of,
+    sender_of, stage_of, station_of, tally_of, unread_length,
+};
 use crate::rows::{HandsetRow, Head, RollRow, StationRow};
 use rules::{Notice, Place, Stage};
 use tally::Tally;
@@ -28,14 +31,6 @@ fn first_places<E>(places: &[E], row: u16, width: u16, filled: u16) -> Option<&[
     places.get(start..start + usize::from(filled))
 }
 
-// The tag of a message of a roll. It is read of the roll alone, also while other tables are lent.
-pub fn tag_of<T: Tally, B>(roll: &[RollRow<T, B>], name: u16) -> T
-    ensures { T.Tally.counts result ≡ (rows_of T.Tally.counts roll.now name).tag }
-{
-    roll.get(usize::from(name))
-        .map_or(T::blank(), |row| row.tag)
-}
-
 // Readers of single entries and of queues, one a column, since each has a clause of its own. A reader of an entry answers
 // every number, past a table's end as a newly opened house would: so the rules need no word for a row that is not there.
 impl<T: Tally, B> Tables<'_, T, B> {
@@ -47,9 +42,7 @@ impl<T: Tally, B> Tables<'_, T, B> {
     pub fn place(&self, handset: u16) -> Place
         ensures { result ≡ (view T.Tally.counts self.now).place handset }
     {
-        self.handsets
-            .get(usize::from(handset))
-            .map_or(Place::Kept { station: 0 }, |row| row.place)
+        place_of(self.handsets, handset)
     }
 
     // How many messages of a station have been handed to a handset; a row has counts for eight stations.
@@ -57,29 +50,21 @@ impl<T: Tally, B> Tables<'_, T, B> {
         ensures is { result ≡ (view T.Tally.counts self.now).handed (on station handset) }
         ensures past { 8 ≤ station → result ≡ 0 }
     {
-        self.handsets
-            .get(usize::from(handset))
-            .and_then(|row| row.handed.get(usize::from(station)))
-            .copied()
-            .unwrap_or(0)
+        handed_of(self.handsets, station, handset)
     }
 
     // The tally that a handset carries.
     pub fn carried(&self, handset: u16) -> T
         ensures { T.Tally.counts result ≡ (view T.Tally.counts self.now).carried handset }
     {
-        self.handsets
-            .get(usize::from(handset))
-            .map_or(T::blank(), |row| row.carried)
+        carried_of(self.handsets, handset)
     }
 
     // How many messages of a handset's book are unread.
     pub fn unread_length(&self, handset: u16) -> u16
         ensures { result ≡ length ((view T.Tally.counts self.now).unread handset) }
     {
-        self.handsets
-            .get(usize::from(handset))
-            .map_or(0, |row| row.unread)
+        unread_length(self.handsets, handset)
     }
 
     // A handset's unread list; none exactly where the table has not all its places.
@@ -95,9 +80,7 @@ impl<T: Tally, B> Tables<'_, T, B> {
     pub fn back_length(&self, handset: u16) -> u16
         ensures { result ≡ length ((view T.Tally.counts self.now).back handset) }
     {
-        self.handsets
-            .get(usize::from(handset))
-            .map_or(0, |row| row.back)
+        back_length(self.handsets, handset)
     }
 
     // A handset's back list; none exactly where the table has not all its places.
@@ -113,18 +96,14 @@ impl<T: Tally, B> Tables<'_, T, B> {
     pub fn tally(&self, station: u16) -> T
         ensures { T.Tally.counts result ≡ (view T.Tally.counts self.now).counts station }
     {
-        self.stations
-            .get(usize::from(station))
-            .map_or(T::blank(), |row| row.tally)
+        tally_of(self.stations, station)
     }
 
     // How many notices a station has.
     pub fn notice_count(&self, station: u16) -> u16
         ensures { result ≡ length ((view T.Tally.counts self.now).notices station) }
     {
-        self.stations
-            .get(usize::from(station))
-            .map_or(0, |row| row.notices)
+        notice_count(self.stations, station)
     }
 
     // A station's notices; none exactly where the table has not all their places.
@@ -141,45 +120,35 @@ impl<T: Tally, B> Tables<'_, T, B> {
         ensures is { result ≡ (view T.Tally.counts self.now).passed station handset }
         ensures past { 32 ≤ handset → result ≡ None }
     {
-        self.stations
-            .get(usize::from(station))
-            .and_then(|row| row.passed.get(usize::from(handset)))
-            .copied()
-            .flatten()
+        passed_of(self.stations, station, handset)
     }
 
     // Where a message is.
     pub fn stage(&self, name: u16) -> Stage
         ensures { result ≡ (view T.Tally.counts self.now).stage name }
     {
-        self.roll
-            .get(usize::from(name))
-            .map_or(Stage::Wire { heading: 0 }, |row| row.stage)
+        stage_of(self.roll, name)
     }
 
     // The station that sent a message.
     pub fn sending_station(&self, name: u16) -> u8
         ensures { result ≡ ((view T.Tally.counts self.now).rows name).station }
     {
-        self.roll
-            .get(usize::from(name))
-            .map_or(0, |row| row.station)
+        station_of(self.roll, name)
     }
 
     // The handset that sent it.
     pub fn sender(&self, name: u16) -> u8
         ensures { result ≡ ((view T.Tally.counts self.now).rows name).sender }
     {
-        self.roll.get(usize::from(name)).map_or(0, |row| row.sender)
+        sender_of(self.roll, name)
     }
 
     // The handset that it is addressed to.
     pub fn addressee(&self, name: u16) -> u8
         ensures { result ≡ ((view T.Tally.counts self.now).rows name).addressee }
     {
-        self.roll
-            .get(usize::from(name))
-            .map_or(0, |row| row.addressee)
+        addressee_of(self.roll, name)
     }
 
     // Its body.
@@ -188,6 +157,6 @@ impl<T: Tally, B> Tables<'_, T, B> {
         B: Copy,
         ensures { result ≡ ((view T.Tally.counts self.now).rows name).body }
     {
-        self.roll.get(usize::from(name)).map(|row| row.body)
+        body_of(self.roll, name)
     }
 }
