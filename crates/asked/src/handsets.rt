@@ -47,7 +47,6 @@ impl<T: Tally, B> ShapedTables<'_, '_, T, B> {
 
     // Does a handset's place name stations of the house, does its book hold at most as many as it has places, are its
     // lists sound, and its handed counts at most 4,096?
-    #[tactic(auto, using(crate::proofs::Strides::row_within))]
     fn handset_sound(&self, handset: u16) -> bool
         requires { handset < self.now.tables.now.head.now.numbers.handsets }
         ensures { result ≡ handset_sound (view T.Tally.counts self.now.tables.now) handset }

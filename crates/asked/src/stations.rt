@@ -64,7 +64,6 @@ impl<T: Tally, B> ShapedTables<'_, '_, T, B> {
 
     // Has a station at most as many notices as handsets are leaving it, has it passed handsets only to stations of the
     // house, and do its notices name handsets and stations of the house?
-    #[tactic(auto, using(crate::proofs::Strides::row_within, crate::proofs::Passes::many_few))]
     fn station_sound(&self, station: u16, leaving: &[u16; 8]) -> bool
         requires station { station < self.now.tables.now.head.now.numbers.stations }
         requires leaving { (p : ℕ) → p < 8 → slice_index leaving.now p ≡ how_many (λ j. leaves p ((view T.Tally.counts self.now.tables.now).place j)) self.now.tables.now.head.now.numbers.handsets }
