@@ -1,5 +1,5 @@
 -- A line asks at most one thing.
-use Rattle.std.proofs.Common.{◌≡◌, ◌≢◌, ℕ, List, [], ◌∷◌, ◌++◌, Bor, lit<, get_or, drop, IfOk, Ok, Err, Result, sym, refl, ap, ◌∙◌, arith}
+use Rattle.std.proofs.Common.{◌≡◌, ◌≢◌, ℕ, List, [], ◌∷◌, ◌++◌, Bor, lit<, get_or, drop, sym, refl, ap, ◌∙◌, arith}
 use Rattle.std.specs.List.{All}
 use Rattle.packet_text.specs.declared.line.TallyKind.{TallyKind}
 use Rattle.packet_text.specs.declared.line.TallyKind.TheVariants.{Full, Listed}
@@ -59,8 +59,6 @@ asks_one line a b p q =
     let packet = hex_one a.packet b.packet p.bytes q.bytes body.1 in
     λ i. record { tally = tally.0 i; body = body.0 i; packet = packet i }
 
--- the reply to what a line asks answers it; it may be refused for want of memory
-pub answers_asked : {X Y : Type 0} (r : Result X Y) (line : List ℕ) (text : X → List ℕ) (a : Asked) → Asks line a → IfOk r (λ x. text x ≡ reply a)
-    → IfOk r (λ x. Answers line (text x))
-answers_asked (Ok x) line text a p e = record { asked = λ b q. e ∙ ap reply (asks_one line a b p q); other = λ none. absurd (none a p) }
-answers_asked (Err y) line text a p e = e
+-- the reply to what a line asks answers it
+pub answers_asked : (line text : List ℕ) (a : Asked) → Asks line a → text ≡ reply a → Answers line text
+answers_asked line text a p e = record { asked = λ b q. e ∙ ap reply (asks_one line a b p q); other = λ none. absurd (none a p) }

@@ -29,7 +29,7 @@ pub record Asked : Type 0 where
 
 -- what the program's own record of it says
 abbrev pub asked_of : AskedRecord → Asked
-asked_of a = record { tally = a.tally; body = a.body; packet = a.packet.items }
+asked_of a = record { tally = a.tally; body = a.body; packet = a.packet.now }
 
 abbrev pub tally_word : TallyKind → List ℕ
 tally_word Full = codes "full "

@@ -1,11 +1,10 @@
 // What a line asks.
-ghost use Rattle.std.specs.Prelude.{◌≡◌, ℕ, ◌<◌, ◌≤◌, List, ◌++◌, length, MatchOption, ◌≢◌};
+ghost use Rattle.std.specs.Prelude.{◌≡◌, ℕ, ◌*◌, ◌<◌, ◌≤◌, List, ◌++◌, length, MatchOption, ◌≢◌};
 ghost use Rattle.std.specs.List.{All, Any};
 ghost use Rattle.packet_text.specs.Hex.{hex_digit, hex_text};
 ghost use Rattle.packet_text.specs.Lines.{Asked as AskedOf, Asks, asked_of};
 
 use crate::line::{Asked, BodyKind, TallyKind};
-use arrayvec::ArrayVec;
 
 // The kind by whose word a line begins, and the rest of the line.
 fn kind<'a, K: Copy>(line: &'a [u8], kinds: &[(&[u8], K)]) -> Option<(K, &'a [u8])>
@@ -32,27 +31,28 @@ fn hex_value(digit: u8) -> Option<u8>
     }
 }
 
-// The bytes for which hex digits stand.
-fn read_hex(digits: &[u8]) -> Option<ArrayVec<u8, 2048>>
-    requires { length digits.now ≤ 4096 }
+// The bytes for which hex digits stand, written to the front of some room.
+fn read_hex<'a>(digits: &[u8], room: &'a mut [u8]) -> Option<&'a [u8]>
+    requires { length digits.now ≤ 2 * length room.old }
     ensures { MatchOption result
         ((bs : List ℕ) → All (λ b. b < 256) bs → digits.now ≢ hex_text bs)
-        (λ bytes. (digits.now ≡ hex_text bytes.items) × All (λ b. b < 256) bytes.items) }
+        (λ bytes. (digits.now ≡ hex_text bytes.now) × All (λ b. b < 256) bytes.now) }
 {
-    let mut bytes = ArrayVec::new();
-    let mut rest = digits;
-    while let [high, low, others @ ..] = rest {
-        bytes.push(16 * hex_value(*high)? + hex_value(*low)?);
-        rest = others;
+    let (pairs, odd) = digits.as_chunks::<2>();
+    if !odd.is_empty() {
+        return None;
     }
-    if rest.is_empty() { Some(bytes) } else { None }
+    for (at, [high, low]) in pairs.iter().enumerate() {
+        room[at] = 16 * hex_value(*high)? + hex_value(*low)?;
+    }
+    Some(&room[..pairs.len()])
 }
 
 // The most bytes of a line that asks something.
 const LONGEST_LINE: usize = 4096;
 
-// What a line asks, if anything.
-pub(crate) fn asked(line: &[u8]) -> Option<Asked>
+// What a line asks, if anything; its packet is written to the front of the room.
+pub(crate) fn asked<'a>(line: &[u8], room: &'a mut [u8; 2048]) -> Option<Asked<'a>>
     ensures { MatchOption result ((a : AskedOf) → Asks line.now a → ⊥) (λ asked. Asks line.now (asked_of asked)) }
 {
     if line.len() > LONGEST_LINE {
@@ -66,7 +66,7 @@ pub(crate) fn asked(line: &[u8]) -> Option<Asked>
         rest,
         &[(b"code ", BodyKind::Code), (b"note ", BodyKind::Note)],
     )?;
-    let packet = read_hex(digits)?;
+    let packet = read_hex(digits, room)?;
     Some(Asked {
         tally,
         body,

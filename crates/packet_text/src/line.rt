@@ -1,5 +1,3 @@
-use arrayvec::ArrayVec;
-
 // The kind of tally with which a packet is to be read.
 #[derive(Clone, Copy, Debug, PartialEq, Eq)]
 pub enum TallyKind {
@@ -15,9 +13,9 @@ pub enum BodyKind {
 }
 
 // What a line asks: that a packet be read with a kind of tally and a kind of body.
-#[derive(Drop)]
-pub struct Asked {
+#[derive(Clone, Copy, Debug, PartialEq, Eq)]
+pub struct Asked<'a> {
     pub tally: TallyKind,
     pub body: BodyKind,
-    pub packet: ArrayVec<u8, 2048>,
+    pub packet: &'a [u8],
 }

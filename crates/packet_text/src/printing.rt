@@ -1,12 +1,12 @@
 // What is printed of a packet.
-ghost use Rattle.std.specs.Prelude.{◌≡◌, ℕ, List, Some, IfOk, string_bytes};
+ghost use Rattle.std.specs.Prelude.{◌≡◌, ℕ, ◌<◌, ◌≤◌, List, length, Some, IfOk, string_bytes};
 ghost use Rattle.std.specs.List.{flat_map};
 ghost use Rattle.std.specs.Fmt.{WritesOnOk};
 ghost use Rattle.tally.specs.Counts.{counted_pairs};
 ghost use Rattle.packet.specs.Faults.{tells};
 ghost use Rattle.packet.specs.Messages.{meaning};
 ghost use Rattle.packet.specs.Reading.{reading};
-ghost use Rattle.packet_text.specs.Hex.{hex_text};
+ghost use Rattle.packet_text.specs.Hex.{hex_digit, hex_text};
 ghost use Rattle.packet_text.specs.Printing.{pair_text, code_text, note_text, message_text, accepted_text, refused_text, outcome_text};
 ghost use Rattle.packet_text.specs.Lines.{kind_of, lawful_of, text_of, reply, asked_of};
 
@@ -19,6 +19,33 @@ use std::alloc::{AllocError, Global};
 use std::{fmt, str};
 use tally::CountedPairs;
 
+// The hex digit for a number below 16.
+fn hex_digit(n: u8) -> u8
+    requires { n < 16 }
+    ensures { result ≡ hex_digit n }
+{
+    if n < 10 { b'0' + n } else { b'a' + (n - 10) }
+}
+
+// How many bytes are printed at a time.
+const PART: usize = 32;
+
+// The hex digits of some bytes, written to the front of some room.
+fn hex_digits<'a>(bytes: &[u8], room: &'a mut [u8; 64]) -> &'a str
+    requires { length bytes.now ≤ 32 }
+    ensures { result.now ≡ hex_text bytes.now }
+{
+    for (at, byte) in bytes.iter().enumerate() {
+        room[2 * at] = hex_digit(*byte / 16);
+        room[2 * at + 1] = hex_digit(*byte % 16);
+    }
+    // digits are characters by themselves
+    let Ok(text) = str::from_utf8(&room[..2 * bytes.len()]) else {
+        unreachable()
+    };
+    text
+}
+
 // Bytes as hex digits.
 #[derive(Drop)]
 struct Hex<'a>(&'a [u8]);
@@ -27,8 +54,10 @@ impl fmt::Display for Hex<'_> {
     ghost output = { λ hex. Some (hex_text hex.0.now) };
 
     fn fmt<W: fmt::Write>(&self, f: &mut fmt::Formatter<W>) -> fmt::Result {
-        for &byte in self.0 {
-            write!(f, "{byte:02x}")?;
+        // many bytes at a time, since each write to a formatter costs as much as many digits
+        let mut room = [0; 64];
+        for part in self.0.chunks(PART) {
+            f.write_str(hex_digits(part, &mut room))?;
         }
         Ok(())
     }
@@ -187,11 +216,11 @@ fn outcome_text_of<T: CountedPairs>(
 }
 
 // What is printed of what is asked for.
-pub(crate) fn reply(heap: Global, asked: &Asked) -> Result<String, AllocError>
+pub(crate) fn reply(heap: Global, asked: &Asked<'_>) -> Result<String, AllocError>
     ensures { IfOk result (λ text. string_bytes text ≡ reply (asked_of asked.now)) }
 {
     match asked.tally {
-        TallyKind::Full => outcome_text_of::<Full>(heap, asked.body, &asked.packet),
-        TallyKind::Listed => outcome_text_of::<Listed>(heap, asked.body, &asked.packet),
+        TallyKind::Full => outcome_text_of::<Full>(heap, asked.body, asked.packet),
+        TallyKind::Listed => outcome_text_of::<Listed>(heap, asked.body, asked.packet),
     }
 }

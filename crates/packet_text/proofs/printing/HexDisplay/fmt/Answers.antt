@@ -1,25 +1,33 @@
-use Rattle.std.proofs.Common.{◌≡◌, false, ◌<◌, [], get_or, take, Some, Ok, refl, sym, ap, ◌∙◌, subst, arith}
+use Rattle.std.proofs.Common.{◌≡◌, ℕ, List, [], ◌++◌, refl, sym, ap, ◌∙◌, rules, append_assoc, append-nil}
 use Rattle.std.proofs.Output.{has_written_append, has_written_of_eq}
-use Rattle.std.proofs.lemmas.Fmt.{hex_byte}
-use Rattle.std.proofs.lemmas.List.{take_more, flat_map_more}
-use Rattle.std.specs.Fmt.{HasWritten, DisplaysOnOk, styled_digits_output, padded_integral, shown_prefix, radix_prefix}
-use Rattle.std.specs.Option.{option_map}
+use Rattle.std.proofs.lemmas.List.{nil_from_length}
+use Rattle.std.proofs.lemmas.List.Concat.{flat_map-append}
+use Rattle.std.specs.Slice.Iter.{chunks_rest}
 use Rattle.packet_text.specs.Hex.{byte_text, hex_text}
 use Rattle.packet_text.proofs.printing.HexDisplay.fmt.Goals as goal
 
-pub loop-byte-preserved : goal.loop-byte-preserved
-loop-byte-preserved g c = λ plain.
-    let bytes = c.args.self.now.0.now in
-    let i = c.loop-byte.byte-index in
-    let byte = get_or bytes i 0 in
-    let small : byte < 256 = omega arith in
-    let digits = c.in_radix.result in
-    let shows : styled_digits_output digits c.laid_out.result ≡ Some (byte_text byte) =
-    (λ j. option_map (padded_integral (c.laid_out.ensures j) false (shown_prefix (c.laid_out.ensures j) (radix_prefix digits.base))) (c.in_radix.ensures j))
-    ∙ ap Some (hex_byte false byte small) in
-    let so_far = c.loop-byte.invariant plain in
-    let one : HasWritten g.W.Write.write_str_gives c.loop-byte.f (byte_text byte) c.write.new.self =
-    subst (λ o. DisplaysOnOk g.W.Write.write_str_gives c.loop-byte.f (Ok c.in_ok-write.field-0) o c.write.new.self) shows c.in_ok-write.ensures.writes so_far.plain refl in
-    has_written_of_eq _ _ _ _ _
-    (flat_map_more byte_text [] (take i bytes) byte ∙ ap hex_text (sym (take_more bytes i 0 c.loop-byte-test.true)))
-    (has_written_append _ _ _ _ _ _ so_far one)
+pub loop-part-init : goal.loop-part-init
+loop-part-init g c = (search rules, tt, search rules, λ plain. ([], search rules, search rules))
+
+pub loop-part-preserved : goal.loop-part-preserved
+loop-part-preserved g c =
+    let part = c.in-Some.part.now in
+    let later = chunks_rest c.next.new.self in
+    let steps = c.in-Some.ensures.steps in
+    let parts : hex_text (chunks_rest c.loop-part.part-iterator) ≡ hex_text part ++ hex_text later = ap hex_text steps.1.0 ∙ flat_map-append byte_text part later in (
+      search rules,
+      tt,
+      steps.0 ∙ c.loop-part.invariant.2,
+      λ plain.
+          let so_far = c.loop-part.invariant.3 plain in (
+            so_far.0 ++ hex_text part,
+            has_written_append _ _ _ _ _ _ so_far.1 (has_written_of_eq _ _ _ _ _ c.hex_digits.ensures (c.in_ok-write_str.ensures.writes so_far.1.plain refl)),
+            append_assoc so_far.0 (hex_text part) (hex_text later) ∙ ap (λ (t : List ℕ). so_far.0 ++ t) (sym parts) ∙ so_far.2,
+          ),
+    )
+
+pub returns-clause-writes : goal.returns-clause-writes
+returns-clause-writes g c = λ plain _.
+    let so_far = c.loop-part.invariant.3 plain in
+    let none = nil_from_length _ c.in-None.ensures.steps.1.0 in
+    has_written_of_eq _ _ _ _ _ (rw (none, append-nil) at so_far.2) so_far.1
